@@ -1,0 +1,69 @@
+-- A leader that was laid out has no fault. Assumes nothing.
+use mathlib.Core.Path.{_≡_, sym, ap, _∙_}
+use mathlib.Core.Bool.{true, _&&_}
+use mathlib.Core.List.{List, [], _∷_, _++_}
+use Prim.Native.Nat.{ℕ, _+_, _-_, _*_, _/_, _<_}
+use native.Mathlib.Omega.{arith}
+use lib.Dec.{eqb}
+use lib.ListN.{length, take, drop, length-append, length-drop}
+use Rattle.std.specs.shelf.Lists.{All}
+use Rattle.std.proofs.shelf.Lists.{length-take-le}
+use Rattle.std.proofs.shelf.Tests.{and-from, eq-eqb, lt-ltb}
+use Rattle.record.specs.declared.faults.FrameFault.the-variants.{Leader}
+use Rattle.record.specs.Classes.{code-character}
+use Rattle.record.specs.Figures.{all-digits, number}
+use Rattle.record.specs.Layout.{digits, leader}
+use Rattle.record.specs.Leader.{base, base-rule, leader-faults}
+use Rattle.record.specs.Rules.{from, rule}
+use Rattle.record.proofs.Decimals.{digits-all, figure-digits, length-figure, number-digits}
+
+pub length-leader : (codes : List ℕ) (len b : ℕ) → length codes ≡ 8 → length (leader codes len b) ≡ 24
+length-leader codes len b eight =
+    let five : length (take 5 codes) ≡ 5 = length-take-le 5 codes (omega arith) in
+    let three : length (take 3 (drop 5 codes)) ≡ 3 = length-take-le 3 (drop 5 codes) (omega (arith, length-drop 5 codes)) in
+    simp (length-append, length-figure, five, three)
+
+-- a list of eight, by its elements
+by-eight : (P : List ℕ → Type 0) → ((a b c d e f g h : ℕ) → P (a ∷ b ∷ c ∷ d ∷ e ∷ f ∷ g ∷ h ∷ [])) → (cs : List ℕ) → length cs ≡ 8 → P cs
+by-eight P p [] n = absurd (omega arith)
+by-eight P p (a ∷ []) n = absurd (omega arith)
+by-eight P p (a ∷ b ∷ []) n = absurd (omega arith)
+by-eight P p (a ∷ b ∷ c ∷ []) n = absurd (omega arith)
+by-eight P p (a ∷ b ∷ c ∷ d ∷ []) n = absurd (omega arith)
+by-eight P p (a ∷ b ∷ c ∷ d ∷ e ∷ []) n = absurd (omega arith)
+by-eight P p (a ∷ b ∷ c ∷ d ∷ e ∷ f ∷ []) n = absurd (omega arith)
+by-eight P p (a ∷ b ∷ c ∷ d ∷ e ∷ f ∷ g ∷ []) n = absurd (omega arith)
+by-eight P p (a ∷ b ∷ c ∷ d ∷ e ∷ f ∷ g ∷ h ∷ []) n = p a b c d e f g h
+by-eight P p (a ∷ b ∷ c ∷ d ∷ e ∷ f ∷ g ∷ h ∷ i ∷ cs) n = absurd (omega arith)
+
+-- a leader before the rest of a record, with a length and a base that have room
+module _ (len bas : ℕ) (rest : List ℕ) (len-fits : len < 100000) (base-fits : bas < 100000) where
+  -- its figures are digits
+  abbrev plain : List ℕ → List ℕ
+  plain cs = digits 5 len ++ (take 5 cs ++ (50 ∷ 50 ∷ (digits 5 bas ++ (take 3 (drop 5 cs) ++ (52 ∷ 53 ∷ 48 ∷ 48 ∷ []))))) ++ rest
+
+  plain-is : (cs : List ℕ) → leader cs len bas ++ rest ≡ plain cs
+  plain-is cs = λ i. figure-digits 5 len len-fits i ++ (take 5 cs ++ (50 ∷ 50 ∷ (figure-digits 5 bas base-fits i ++ (take 3 (drop 5 cs) ++ (52 ∷ 53 ∷ 48 ∷ 48 ∷ []))))) ++ rest
+
+  pub leader-base : (cs : List ℕ) → length cs ≡ 8 → base (leader cs len bas ++ rest) ≡ bas
+  leader-base cs eight = ap base (plain-is cs) ∙ by-eight (λ l. base (plain l) ≡ bas) (λ a b c d e f g h. number-digits 5 bas base-fits) cs eight
+
+  module _ (whole : bas ≡ 25 + 12 * ((bas - 25) / 12)) (inside : bas < len) where
+    abbrev Clear : List ℕ → Type 0
+    Clear cs = All (λ c. code-character c ≡ true) cs → length (plain cs) ≡ len → leader-faults (plain cs) ≡ []
+
+    clear-eight : (a b c d e f g h : ℕ) → Clear (a ∷ b ∷ c ∷ d ∷ e ∷ f ∷ g ∷ h ∷ [])
+    unfolding leader-faults from
+    clear-eight a b c d e f g h (pa, (pb, (pc, (pd, (pe, (pf, (pg, (ph, _)))))))) long =
+        let bs = plain (a ∷ b ∷ c ∷ d ∷ e ∷ f ∷ g ∷ h ∷ []) in
+        let n = number-digits 5 bas base-fits in
+        let first : (all-digits (digits 5 len) && eqb (number (digits 5 len)) (length bs)) ≡ true = and-from _ _ (digits-all 5 len) (eq-eqb _ _ (number-digits 5 len len-fits ∙ sym long)) in
+        let second : base-rule bs ≡ true = and-from _ _ (digits-all 5 bas) (and-from _ _ (eq-eqb (number (digits 5 bas)) (25 + 12 * ((number (digits 5 bas) - 25) / 12)) (n ∙ whole ∙ ap (λ m. 25 + 12 * ((m - 25) / 12)) (sym n))) (lt-ltb (number (digits 5 bas)) (length bs) (omega arith))) in
+        λ i.
+        rule (first i) (Leader 0)
+        ++ (rule (pa i) (Leader 5) ++ (rule (pb i) (Leader 6) ++ (rule (pc i) (Leader 7) ++ (rule (pd i) (Leader 8) ++ (rule (pe i) (Leader 9)
+        ++ (rule (second i) (Leader 12)
+        ++ (rule (pf i) (Leader 17) ++ (rule (pg i) (Leader 18) ++ (rule (ph i) (Leader 19) ++ [])))))))))
+
+    pub leader-clear : (cs : List ℕ) → length cs ≡ 8 → All (λ c. code-character c ≡ true) cs → length (leader cs len bas ++ rest) ≡ len → leader-faults (leader cs len bas ++ rest) ≡ []
+    leader-clear cs eight ok long = ap leader-faults (plain-is cs) ∙ by-eight Clear clear-eight cs eight ok (ap length (sym (plain-is cs)) ∙ long)

@@ -1,0 +1,13 @@
+pub mod Classes
+pub mod Values
+pub mod Rules
+pub mod Figures
+pub mod Leader
+pub mod Directory
+pub mod Contents
+pub mod Frame
+pub mod Broken
+pub mod Told
+pub mod Parts
+pub mod Layout
+pub mod Formed
