@@ -11,3 +11,4 @@ pub mod Told
 pub mod Parts
 pub mod Layout
 pub mod Formed
+pub mod Examples

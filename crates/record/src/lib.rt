@@ -1,10 +1,19 @@
-// Records of the exchange format ISO 2709, as IBERMARC and MARC 21 use it: byte classes and the frame check.
-pub mod c_call;
+// Records of the exchange format ISO 2709, as IBERMARC and MARC 21 use it. To be read in this order.
+
+// Bytes and figures.
 pub mod classes;
+pub mod figures;
+mod slices;
+
+// What is wrong, and where.
+pub mod faults;
+
+// The parts of a frame.
 mod contents;
 mod directory;
-pub mod faults;
-pub mod figures;
-pub mod frame;
 mod leader;
-mod slices;
+
+// The frame check, and the call of it from C.
+pub mod c_call;
+pub mod examples;
+pub mod frame;
