@@ -101,3 +101,61 @@ pub impl<'a> Iterator for Records<'a> as RecordsIterator {
         }
     }
 }
+
+#[cfg(test)]
+mod tests {
+    use super::Offered;
+    use super::Records;
+    use super::RecordsIterator;
+    use super::Stop;
+    use super::StopDebug;
+    use super::StopPartialEq;
+    use super::Unread;
+    use std::test::*;
+
+    // Where each record begins and how long it is, and where the walk stops.
+    fn place_and_length(found: Option<Result<Offered<'_>, Stop>>) -> (usize, usize) {
+        match found {
+            Some(Ok(record)) => (record.place, record.bytes.len()),
+            Some(Err(stop)) => (stop.place, 0),
+            None => (0, 0),
+        }
+    }
+
+    fn first_stop(export: &[u8]) -> Option<Stop> {
+        for found in Records::new(export) {
+            if let Err(stop) = found {
+                return Some(stop);
+            }
+        }
+        None
+    }
+
+    #[test]
+    fn takes_records_by_their_digits() -> Result<(), Fail> {
+        let mut records = Records::new(b"00007ab00005");
+        check_eq(place_and_length(records.next()), (0, 7))?;
+        check_eq(place_and_length(records.next()), (7, 5))?;
+        check(records.next().is_none())
+    }
+
+    #[test]
+    fn stops_where_no_record_begins() -> Result<(), Fail> {
+        let place = 7;
+        let no_length = Some(Stop {
+            place,
+            why: Unread::NoLength,
+        });
+        check_eq(first_stop(b""), None)?;
+        check_eq(first_stop(b"00007ab0000x"), no_length)?;
+        check_eq(first_stop(b"00007ab0000"), no_length)?;
+        check_eq(first_stop(b"00007ab00004"), no_length)?;
+        check_eq(
+            first_stop(b"00007ab00006"),
+            Some(Stop {
+                place,
+                why: Unread::Torn { told: 6 },
+            }),
+        )
+    }
+}

@@ -14,7 +14,7 @@ use std::fs;
 use std::io;
 
 // Checks the exports of these names and prints the totals. It fails where one was not read to its end.
-pub fn check_exports(rt: &LibcRuntime, names: Args) -> Result<(), AnyError> {
+pub(crate) fn check_exports(rt: &LibcRuntime, names: Args) -> Result<(), AnyError> {
     let mut totals = Totals::new();
     let mut whole = true;
     for name in names {
@@ -38,7 +38,7 @@ fn check_file(rt: &LibcRuntime, name: &str, totals: &mut Totals) -> io::Result<b
     let export = match fs::read(rt, name) {
         Ok(export) => export,
         Err(error) => {
-            eprintln!(rt, "{name}: cannot be read: {error}")?;
+            eprintln!(rt, "ibermarc21: {name}: cannot be read: {error}")?;
             return Ok(false);
         }
     };
@@ -104,11 +104,11 @@ fn tell_stop(rt: &LibcRuntime, name: &str, ordinal: u64, stop: Stop) -> io::Resu
     match stop.why {
         Unread::NoLength => eprintln!(
             rt,
-            "{name}: record {ordinal} at byte {place}: no length of a record in five digits; the file is read no further"
+            "ibermarc21: {name}: record {ordinal} at byte {place}: no length of a record in five digits; the rest of the file is not read"
         ),
         Unread::Torn { told } => eprintln!(
             rt,
-            "{name}: record {ordinal} at byte {place}: the file ends before the {told} bytes of the record do"
+            "ibermarc21: {name}: record {ordinal} at byte {place}: the file ends before the {told} bytes of the record do"
         ),
     }
 }

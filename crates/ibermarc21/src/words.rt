@@ -2,7 +2,7 @@
 use record::faults::FrameFault;
 
 // What a fault of the frame means.
-pub fn meaning(fault: FrameFault) -> &'static str {
+pub(crate) fn meaning(fault: FrameFault) -> &'static str {
     match fault {
         FrameFault::Length => "the record is not 26 to 99,999 bytes long",
         FrameFault::Leader { place: 0 } =>

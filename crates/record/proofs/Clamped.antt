@@ -1,12 +1,12 @@
 -- Parts that stop where a list ends. Assumes nothing.
-use mathlib.Core.Path.{_≡_, refl, sym, ap, _∙_}
+use mathlib.Core.Path.{_≡_, sym, ap, _∙_}
 use mathlib.Core.Logic.{⊎-elim}
 use mathlib.Core.List.{List}
-use Prim.Native.Nat.{ℕ, min, _+_, _-_, _<_, _≤_}
+use Prim.Native.Nat.{ℕ, min, _+_, _-_}
 use native.Mathlib.Nat.{le-refl}
 use native.Mathlib.Omega.{arith}
 use lib.ListN.{length, take, drop, length-drop}
-use Rattle.std.proofs.shelf.Lists.{drop-all, drop-drop, drop-take, take-all, take-take}
+use Rattle.std.proofs.shelf.Lists.{drop-all, take-all}
 use Rattle.std.proofs.shelf.Tests.{cases-lt}
 
 pub drop-min : (p : ℕ) (bs : List ℕ) → drop (min p (length bs)) bs ≡ drop p bs

@@ -2,12 +2,12 @@
 use mathlib.Core.Path.{_≡_, refl, sym, ap, _∙_}
 use mathlib.Core.Bool.{Bool, true, false, _&&_, cond}
 use mathlib.Core.List.{List, [], _∷_, _++_, append-assoc, append-nil}
-use Prim.Native.Nat.{ℕ, zero, suc, _+_, _-_, _*_, _/_, _%_, _^_, _<_, _≤_}
+use Prim.Native.Nat.{ℕ, zero, suc, _+_, _-_, _*_, _/_, _%_, _^_, _<_}
 use native.Mathlib.Nat.{add-zero, mul-assoc, mul-le-mul-right, mul-left-comm, pow-succ', zero-add}
 use native.Mathlib.Omega.{arith}
-use lib.Dec.{leb, ltb}
+use lib.Dec.{ltb}
 use lib.ListN.{length, replicate, length-append, length-replicate}
-use Rattle.std.proofs.shelf.Tests.{and-from, and-parts, cond-true, cond-false, le-leb, leb-true, lt-ltb}
+use Rattle.std.proofs.shelf.Tests.{and-from, and-parts, cond-true, le-leb, leb-true, lt-ltb}
 use Rattle.record.specs.Classes.{digit}
 use Rattle.record.specs.Figures.{all-digits, number, number-from}
 use Rattle.record.specs.Layout.{digits, figure}

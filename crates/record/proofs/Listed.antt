@@ -1,11 +1,11 @@
 -- The frame's faults are the rules that the record breaks, in rising order, and so the first is the first broken. Assumes nothing.
 use mathlib.Core.Path.{_≡_, refl, sym, ap, subst, _∙_}
-use mathlib.Core.Bool.{Bool, false}
+use mathlib.Core.Bool.{false}
 use mathlib.Core.List.{List, [], _∷_, _++_}
 use mathlib.Core.Logic.{_⊎_, inl, inr, ⊎-elim}
 use Prim.Native.Nat.{ℕ, _+_, _-_, _<_, _≤_}
 use native.Mathlib.Omega.{arith}
-use lib.ListN.{length, drop, length-drop}
+use lib.ListN.{length}
 use Rattle.std.specs.declared.result.Result.{Result}
 use Rattle.std.specs.declared.result.Result.the-variants.{Ok, Err}
 use Rattle.std.specs.Results.{Cases}
@@ -15,7 +15,7 @@ use Rattle.record.specs.declared.faults.FrameFault.the-variants.{Length, Leade
 use Rattle.record.specs.declared.frame.Frame.{Frame}
 use Rattle.record.specs.Broken.{Before, Breaks, First-broken, None-broken}
 use Rattle.record.specs.Contents.{byte-rule, faults-of, field-bytes, field-faults, field-place, fields-faults}
-use Rattle.record.specs.Directory.{directory-end-faults, directory-end-rule, directory-faults, entry-faults, entry-place, entry-rule, entry-size, entry-tag, sizes-before}
+use Rattle.record.specs.Directory.{directory-end-faults, directory-end-rule, directory-faults, entry-faults, entry-place, entry-rule, entry-size, entry-tag}
 use Rattle.record.specs.Frame.{end-faults, end-rule, frame-faults, frame-of, size-faults, size-rule}
 use Rattle.record.specs.Leader.{entry-count, leader-faults, leader-rule}
 use Rattle.record.specs.Rules.{over, rule, verdict}

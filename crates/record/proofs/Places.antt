@@ -14,7 +14,7 @@ use Rattle.record.specs.declared.faults.FrameFault.the-variants.{Length, Leade
 use Rattle.record.specs.Broken.{Before, First-broken}
 use Rattle.record.specs.Contents.{field-bytes, field-place}
 use Rattle.record.specs.Frame.{size-rule}
-use Rattle.record.specs.Leader.{base-rule, leader-rule}
+use Rattle.record.specs.Leader.{base-rule}
 use Rattle.record.specs.Rules.{verdict}
 use Rattle.record.specs.Told.{Readable, told}
 use Rattle.record.specs.Values.{values-of}
@@ -45,14 +45,6 @@ small bs (Field p) t =
     let inside : length (field-bytes bs k) ≤ length bs - field-place bs k = simp (length-take, length-drop) (omega arith) in
     omega (arith, sized bs (Field p) t (inl (omega arith)), inside, t .broken .3, t .broken .4)
 small bs (RecordEnd p) t = omega (arith, sized bs (RecordEnd p) t (inl (omega arith)), t .broken .0)
-
-pub numbered : (f : FrameFault) → values-of f .number ≤ 22
-numbered Length = omega arith
-numbered (Leader p) = omega arith
-numbered (Entry p) = omega arith
-numbered (DirectoryEnd p) = omega arith
-numbered (Field p) = omega arith
-numbered (RecordEnd p) = omega arith
 
 -- what is told of the first fault, and that its number and place are read from it
 pub told-of : {X : Type 0} (fs : List FrameFault) (f : FrameFault) (x : X) (r : ℕ) → Err f ≡ verdict fs x → values-of f .place < 100000 → r ≡ values-of f .number * 100000 + values-of f .place → (r ≡ told fs) × Readable fs r

@@ -1,7 +1,9 @@
 // The frame check for load programs written in C.
 ghost use mathlib.Core.Path.{_≡_};
+ghost use Prim.Native.Nat.{_+_, _*_, _<_};
 ghost use Rattle.record.specs.Frame.{frame-faults};
 ghost use Rattle.record.specs.Told.{Readable, told};
+use crate::faults::Values;
 use crate::frame::check;
 
 // 0 where the frame holds, or else the refusal's number times 100,000 plus its place.
@@ -12,11 +14,16 @@ pub extern "C" fn ibermarc21_frame_check(record: &[u8]) -> u64
 {
     match check(record) {
         Ok(_) => 0,
-        Err(fault) => {
-            let values = fault.values();
-            u64::from(values.number) * 100_000 + values.place as u64
-        }
+        Err(fault) => in_one_number(fault.values()),
     }
+}
+
+// The number and the place of a refusal, in one number.
+fn in_one_number(values: Values) -> u64
+    requires { ⌜ values .place < 100000 ⌝ }
+    ensures { λ r. ⌜ r ≡ values .number * 100000 + values .place ⌝ }
+{
+    u64::from(values.number) * 100_000 + values.place as u64
 }
 
 #[cfg(test)]

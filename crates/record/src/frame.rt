@@ -1,9 +1,11 @@
 // The frame check.
 ghost use mathlib.Core.Path.{_≡_};
+ghost use Prim.Native.Nat.{_≤_};
+ghost use lib.ListN.{length};
 ghost use Rattle.std.specs.Results.{Cases};
 ghost use Rattle.record.specs.Broken.{First-broken, None-broken};
 ghost use Rattle.record.specs.Formed.{Laid-out};
-ghost use Rattle.record.specs.Frame.{frame-faults, frame-of, size-rule};
+ghost use Rattle.record.specs.Frame.{end-rule, frame-faults, frame-of, size-rule};
 ghost use Rattle.record.specs.Rules.{verdict};
 use crate::contents::check_fields;
 use crate::directory::check_directory;
@@ -36,6 +38,14 @@ fn size_holds(bytes: &[u8]) -> bool
     }
 }
 
+// Whether the last byte ends the record.
+fn end_holds(bytes: &[u8]) -> bool
+    requires { ⌜ 1 ≤ length (now bytes) ⌝ }
+    ensures { λ r. ⌜ r ≡ end-rule (now (bytes .entry)) ⌝ }
+{
+    bytes[bytes.len() - 1] == 0x1d
+}
+
 // The frame check: the first fault, by number and then by place, or the frame where it holds.
 pub fn check(record: &[u8]) -> Result<Frame, FrameFault>
     ensures answer { λ r. ⌜ r ≡ verdict (frame-faults (now («record» .entry))) (frame-of (now («record» .entry))) ⌝ }
@@ -56,9 +66,10 @@ fn first_fault(bytes: &[u8]) -> Result<Frame, FrameFault>
     let entries = (number_at(bytes, 12, 5) - 25) / 12;
     check_directory(bytes, entries)?;
     check_fields(bytes, entries)?;
-    let end = bytes.len() - 1;
-    if bytes[end] != 0x1d {
-        return Err(FrameFault::RecordEnd { place: end });
+    if !end_holds(bytes) {
+        return Err(FrameFault::RecordEnd {
+            place: bytes.len() - 1,
+        });
     }
     Ok(Frame {
         entries: entries as u16,

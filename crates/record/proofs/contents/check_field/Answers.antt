@@ -1,3 +1,4 @@
+-- The loop over the bytes of a field stops at the first that breaks its rule.
 use mathlib.Core.Path.{refl, sym, ap, _∙_}
 use Prim.Native.Nat.{_+_}
 use Rattle.record.specs.declared.faults.FrameFault.the-variants.{Field}

@@ -1,8 +1,8 @@
-use mathlib.Core.Path.{_≡_, refl, sym, ap, _∙_}
-use Prim.Native.Nat.{_+_, _≤_}
+-- The loop over the fields stops at the first that has a fault.
+use mathlib.Core.Path.{sym, ap, _∙_}
+use Prim.Native.Nat.{_+_}
 use native.Mathlib.Omega.{arith}
 use Rattle.record.specs.Contents.{fields-faults, faults-of}
-use Rattle.record.specs.Directory.{entry-size, sizes-before}
 use Rattle.record.specs.Rules.{over, verdict}
 use Rattle.record.proofs.Ranges.{passed, found, ended}
 use Rattle.record.proofs.Sound.{sizes-next, sizes-none, sizes-mono}

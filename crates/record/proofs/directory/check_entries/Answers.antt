@@ -1,3 +1,4 @@
+-- The loop over the entries stops at the first that breaks its rule, with the lengths before it added up.
 use mathlib.Core.Path.{_≡_, refl, sym, ap, _∙_}
 use Prim.Native.Nat.{_+_}
 use native.Mathlib.Omega.{arith}

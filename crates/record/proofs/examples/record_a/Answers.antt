@@ -1,3 +1,4 @@
+-- The known answers come out by computing.
 use mathlib.Core.Path.{refl}
 use Rattle.record.specs.Contents.{field-faults, fields-faults}
 use Rattle.record.specs.Directory.{directory-faults, sizes-before}

@@ -1,3 +1,4 @@
+-- The first fault is the first broken rule, and there is none exactly where the record is laid out from well-formed parts.
 use Rattle.record.proofs.Listed.{judged}
 use Rattle.record.proofs.Whole.{passed-when-laid}
 use Rattle.record.proofs.frame.check.Needs as need

@@ -1,18 +1,15 @@
-use mathlib.Core.Path.{_≡_, refl, sym, ap, _∙_}
+-- Number by number: the first fault of a stage is the first of all where the stages before it have none.
+use mathlib.Core.Path.{_≡_, sym, ap, _∙_}
 use mathlib.Core.Bool.{Bool, true, false}
-use mathlib.Core.List.{List, []}
-use Prim.Native.Nat.{ℕ, _-_, _/_}
+use mathlib.Core.List.{[]}
+use Prim.Native.Nat.{_-_, _/_}
 use native.Mathlib.Omega.{arith}
-use lib.Dec.{eqb}
-use lib.ListN.{length, getD}
+use lib.ListN.{length}
 use Rattle.std.specs.declared.result.Result.the-variants.{Ok}
-use Rattle.std.proofs.shelf.Tests.{eq-eqb, ne-eqb}
 use Rattle.record.specs.declared.faults.FrameFault.the-variants.{RecordEnd}
-use Rattle.record.specs.declared.frame.Frame.{Frame}
-use Rattle.record.specs.Directory.{directory-faults}
 use Rattle.record.specs.Rules.{rule, verdict}
-use Rattle.record.specs.Frame.{frame-faults, frame-of}
-use Rattle.record.specs.Leader.{base, entry-count, leader-faults}
+use Rattle.record.specs.Frame.{end-rule, frame-faults, frame-of}
+use Rattle.record.specs.Leader.{entry-count, leader-faults}
 use Rattle.record.proofs.Sound.{based, between, filled}
 use Rattle.record.proofs.Stages.{at-size, at-leader, at-directory, at-fields, at-end}
 use Rattle.record.proofs.Verdicts.{none, first, returned}
@@ -71,21 +68,21 @@ returns-in-Break-check-fields c =
     ∙ ap (λ l. verdict l (frame-of bs)) (sym (at-fields bs (c .if-not-size-holds .ensures tt) (none _ _ _ (c .in-Continue-check-leader .ensures tt)) (none _ _ _ (c .in-Continue-check-directory .ensures tt))))
 
 -- the last byte, where all else is right
-last : (c : In-Continue-check-fields) (t : Bool) → eqb (getD (c .args .bytes .now) (length (c .args .bytes .now) - 1) 0) 29 ≡ t → verdict (rule t (RecordEnd (length (c .args .bytes .now) - 1))) (frame-of (c .args .bytes .now)) ≡ verdict (frame-faults (c .args .bytes .now)) (frame-of (c .args .bytes .now))
+last : (c : In-Continue-check-fields) (t : Bool) → t ≡ end-rule (c .args .bytes .now) → verdict (rule t (RecordEnd (length (c .args .bytes .now) - 1))) (frame-of (c .args .bytes .now)) ≡ verdict (frame-faults (c .args .bytes .now)) (frame-of (c .args .bytes .now))
 last c t e =
     let bs = c .args .bytes .now in
     ap (λ l. verdict l (frame-of bs)) (
-    ap (λ u. rule u (RecordEnd (length bs - 1))) (sym e)
+    ap (λ u. rule u (RecordEnd (length bs - 1))) e
     ∙ sym (at-end bs (c .if-not-size-holds .ensures tt) (none _ _ _ (c .in-Continue-check-leader .ensures tt)) (none _ _ _ (c .in-Continue-check-directory .ensures tt)) (none _ _ _ (c .in-Continue-check-fields .ensures tt)))
     )
 
-pub returns-then-bytes-end-ne29 : need.returns-then-bytes-end-ne29
-returns-then-bytes-end-ne29 c = last (need.at·returns-then-bytes-end-ne29 c .In-Continue-check-fields) false (ne-eqb _ _ (c .if-bytes-end-ne29 .taken))
+pub returns-then-not-end-holds : need.returns-then-not-end-holds
+returns-then-not-end-holds c = last (need.at·returns-then-not-end-holds c .In-Continue-check-fields) false (c .if-not-end-holds .ensures tt)
 
 pub returns : need.returns
 returns c =
     let d = need.at·returns c .After-number-at in
-    ap (λ n. Ok (record { entries = n })) (counted d) ∙ last (need.at·returns c .In-Continue-check-fields) true (eq-eqb _ _ (c .if-bytes-end-ne29 .left))
+    ap (λ n. Ok (record { entries = n })) (counted d) ∙ last (need.at·returns c .In-Continue-check-fields) true (c .if-not-end-holds .ensures tt)
 
 pub cast-result : need.cast-result
 cast-result c =

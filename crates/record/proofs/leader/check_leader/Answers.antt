@@ -1,3 +1,4 @@
+-- The loop over the leader stops at the first position that breaks its rule.
 use mathlib.Core.Path.{refl, sym, ap, _∙_}
 use Rattle.record.specs.declared.faults.FrameFault.the-variants.{Leader}
 use Rattle.record.specs.Rules.{verdict}

@@ -1,3 +1,4 @@
+-- A walk begins with the whole export.
 use mathlib.Core.Path.{refl}
 use Rattle.exports.proofs.Rests.{walked}
 use Rattle.exports.proofs.walk.Records.new.Needs as need

@@ -1,3 +1,4 @@
+-- One step of the walk, and that less is left after it.
 use mathlib.Core.Path.{refl, sym, ap, _∙_}
 use Prim.Native.Nat.{_+_}
 use native.Mathlib.Nat.{le-refl}
