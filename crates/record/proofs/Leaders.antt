@@ -1,19 +1,18 @@
 -- A leader that was laid out has no fault. Assumes nothing.
 use mathlib.Core.Path.{_≡_, sym, ap, _∙_}
-use mathlib.Core.Bool.{true, _&&_}
+use mathlib.Core.Bool.{true}
 use mathlib.Core.List.{List, [], _∷_, _++_}
 use Prim.Native.Nat.{ℕ, _+_, _-_, _*_, _/_, _<_}
 use native.Mathlib.Omega.{arith}
-use lib.Dec.{eqb}
 use lib.ListN.{length, take, drop, length-append, length-drop}
 use Rattle.std.specs.shelf.Lists.{All}
 use Rattle.std.proofs.shelf.Lists.{length-take-le}
 use Rattle.std.proofs.shelf.Tests.{and-from, eq-eqb, lt-ltb}
 use Rattle.record.specs.declared.faults.FrameFault.the-variants.{Leader}
 use Rattle.record.specs.Classes.{code-character}
-use Rattle.record.specs.Figures.{all-digits, number}
+use Rattle.record.specs.Figures.{number}
 use Rattle.record.specs.Layout.{digits, leader}
-use Rattle.record.specs.Leader.{base, base-rule, leader-faults}
+use Rattle.record.specs.Leader.{base, base-rule, leader-faults, length-rule}
 use Rattle.record.specs.Rules.{from, rule}
 use Rattle.record.proofs.Decimals.{digits-all, figure-digits, length-figure, number-digits}
 
@@ -57,8 +56,9 @@ module _ (len bas : ℕ) (rest : List ℕ) (len-fits : len < 100000) (base-fits 
     clear-eight a b c d e f g h (pa, (pb, (pc, (pd, (pe, (pf, (pg, (ph, _)))))))) long =
         let bs = plain (a ∷ b ∷ c ∷ d ∷ e ∷ f ∷ g ∷ h ∷ []) in
         let n = number-digits 5 bas base-fits in
-        let first : (all-digits (digits 5 len) && eqb (number (digits 5 len)) (length bs)) ≡ true = and-from _ _ (digits-all 5 len) (eq-eqb _ _ (number-digits 5 len len-fits ∙ sym long)) in
-        let second : base-rule bs ≡ true = and-from _ _ (digits-all 5 bas) (and-from _ _ (eq-eqb (number (digits 5 bas)) (25 + 12 * ((number (digits 5 bas) - 25) / 12)) (n ∙ whole ∙ ap (λ m. 25 + 12 * ((m - 25) / 12)) (sym n))) (lt-ltb (number (digits 5 bas)) (length bs) (omega arith))) in
+        let first : length-rule bs ≡ true = and-from _ _ (digits-all 5 len) (eq-eqb _ _ (number-digits 5 len len-fits ∙ sym long)) in
+        let room : number (digits 5 bas) ≡ 25 + 12 * ((number (digits 5 bas) - 25) / 12) = n ∙ whole ∙ ap (λ m. 25 + 12 * ((m - 25) / 12)) (sym n) in
+        let second : base-rule bs ≡ true = and-from _ _ (digits-all 5 bas) (and-from _ _ (eq-eqb _ _ room) (lt-ltb (number (digits 5 bas)) (length bs) (omega arith))) in
         λ i.
         rule (first i) (Leader 0)
         ++ (rule (pa i) (Leader 5) ++ (rule (pb i) (Leader 6) ++ (rule (pc i) (Leader 7) ++ (rule (pd i) (Leader 8) ++ (rule (pe i) (Leader 9)

@@ -1,6 +1,6 @@
 -- The frame's faults are the rules that the record breaks, in rising order, and so the first is the first broken. Assumes nothing.
 use mathlib.Core.Path.{_≡_, refl, sym, ap, subst, _∙_}
-use mathlib.Core.Bool.{false}
+use mathlib.Core.Bool.{Bool, false}
 use mathlib.Core.List.{List, [], _∷_, _++_}
 use mathlib.Core.Logic.{_⊎_, inl, inr, ⊎-elim}
 use Prim.Native.Nat.{ℕ, _+_, _-_, _<_, _≤_}
@@ -20,31 +20,48 @@ use Rattle.record.specs.Frame.{end-faults, end-rule, frame-faults, frame-of, s
 use Rattle.record.specs.Leader.{entry-count, leader-faults, leader-rule}
 use Rattle.record.specs.Rules.{over, rule, verdict}
 use Rattle.record.specs.Values.{values-of}
-use Rattle.record.proofs.Ordered.{In, Rising, in-append, in-left, in-over, in-right, in-rule, least, over-in, rising-append, rising-over, rising-rule, rule-in}
+use Rattle.record.proofs.Ordered.{In, Rising, in-append, in-left, in-over, in-right, in-rule, in-rules, least, over-in, rising-append, rising-over, rising-rule, rising-rules, rule-in, rules-in}
 use Rattle.record.proofs.Sound.{sizes-mono, sizes-next}
 use Rattle.record.proofs.Verdicts.{none}
 
-abbrev number-of : FrameFault → ℕ
-number-of f = values-of f .number
+-- a broken rule with this number
+abbrev Broken : List ℕ → ℕ → FrameFault → Type 0
+Broken bs n f = (values-of f .number ≡ n) × Breaks bs f
+
+-- a broken rule with this number or a larger one
+abbrev Later : List ℕ → ℕ → FrameFault → Type 0
+Later bs n f = (n ≤ values-of f .number) × Breaks bs f
+
+broken : (bs : List ℕ) (n : ℕ) (f g : FrameFault) → f ≡ g → Broken bs n g → Broken bs n f
+broken bs n f g e h = subst (Broken bs n) (sym e) h
 
 -- two faults by what they are
 before : (x y f g : FrameFault) → x ≡ f → y ≡ g → Before f g → Before x y
 before x y f g p q h = subst (λ u. Before u y) (sym p) (subst (Before f) (sym q) h)
 
--- a broken rule with this number
-abbrev Broken : List ℕ → ℕ → FrameFault → Type 0
-Broken bs n f = (number-of f ≡ n) × Breaks bs f
-
-broken : (bs : List ℕ) (n : ℕ) (f g : FrameFault) → f ≡ g → Broken bs n g → Broken bs n f
-broken bs n f g e h = subst (Broken bs n) (sym e) h
-
 module _ (bs : List ℕ) where
-  -- the rules, place by place
-  abbrev leader-at : ℕ → List FrameFault
-  leader-at p = rule (leader-rule bs p) (Leader p)
+  abbrev entries : List FrameFault
+  entries = over (entry-faults bs) 0 (entry-count bs)
 
-  abbrev byte-at : ℕ → ℕ → List FrameFault
-  byte-at k i = rule (byte-rule (entry-tag bs k) (field-bytes bs k) i) (Field (field-place bs k + i))
+  -- what is left of the list, number by number
+  abbrev from-21 : List FrameFault
+  from-21 = fields-faults bs ++ end-faults bs
+
+  abbrev from-20 : List FrameFault
+  from-20 = directory-faults bs ++ from-21
+
+  abbrev from-19 : List FrameFault
+  from-19 = leader-faults bs ++ from-20
+
+  -- the faults of a range of rules, by place
+  abbrev at-entry : ℕ → FrameFault
+  at-entry k = Entry (entry-place k)
+
+  abbrev at-byte : ℕ → ℕ → FrameFault
+  at-byte k i = Field (field-place bs k + i)
+
+  abbrev byte-holds : ℕ → ℕ → Bool
+  byte-holds k i = byte-rule (entry-tag bs k) (field-bytes bs k) i
 
   -- ---- what stands in the list is broken
 
@@ -53,85 +70,110 @@ module _ (bs : List ℕ) where
 
   leader-broken : (f : FrameFault) → In f (leader-faults bs) → Broken bs 19 f
   unfolding leader-faults
-  leader-broken f h =
-      let k = over-in leader-at 24 f h in
-      let q = rule-in (leader-rule bs (k .0)) (Leader (k .0)) f (k .2) in
-      broken bs 19 f (Leader (k .0)) (q .0) (refl, (k .1, q .1))
+  leader-broken f h = let q = rules-in (leader-rule bs) (λ p. Leader p) 24 f h in broken bs 19 f (Leader (q .0)) (q .2) (refl, (q .1, q .3))
+
+  entry-broken : (f : FrameFault) → In f entries → Broken bs 20 f
+  entry-broken f h =
+      let q = rules-in (entry-rule bs) at-entry (entry-count bs) f h in
+      broken bs 20 f (at-entry (q .0)) (q .2) (refl, (q .0, q .1, refl, q .3))
+
+  directory-end-broken : (f : FrameFault) → In f (directory-end-faults bs) → Broken bs 20 f
+  directory-end-broken f h =
+      let e = DirectoryEnd (entry-place (entry-count bs)) in
+      let q = rule-in (directory-end-rule bs) e f h in
+      broken bs 20 f e (q .0) (refl, (refl, q .1))
 
   directory-broken : (f : FrameFault) → In f (directory-faults bs) → Broken bs 20 f
   unfolding directory-faults
-  directory-broken f h =
-      ⊎-elim
-      (λ m.
-      let k = over-in (entry-faults bs) (entry-count bs) f m in
-      let q = rule-in (entry-rule bs (k .0)) (Entry (entry-place (k .0))) f (k .2) in
-      broken bs 20 f (Entry (entry-place (k .0))) (q .0) (refl, (k .0, k .1, refl, q .1)))
-      (λ m.
-      let q = rule-in (directory-end-rule bs) (DirectoryEnd (entry-place (entry-count bs))) f m in
-      broken bs 20 f (DirectoryEnd (entry-place (entry-count bs))) (q .0) (refl, (refl, q .1)))
-      (in-append f (over (entry-faults bs) 0 (entry-count bs)) (directory-end-faults bs) h)
+  directory-broken f h = ⊎-elim (entry-broken f) (directory-end-broken f) (in-append f entries (directory-end-faults bs) h)
 
   -- a fault of field k, by the byte that it is at
-  field-broken : (k : ℕ) (f : FrameFault) → In f (faults-of bs k) → (i : ℕ) × (i < length (field-bytes bs k)) × (f ≡ Field (field-place bs k + i)) × (byte-rule (entry-tag bs k) (field-bytes bs k) i ≡ false)
+  byte-broken : (k : ℕ) (f : FrameFault) → In f (faults-of bs k) → (i : ℕ) × (i < length (field-bytes bs k)) × (f ≡ at-byte k i) × (byte-holds k i ≡ false)
   unfolding field-faults
-  field-broken k f h =
-      let i = over-in (byte-at k) (length (field-bytes bs k)) f h in
-      let q = rule-in (byte-rule (entry-tag bs k) (field-bytes bs k) (i .0)) (Field (field-place bs k + i .0)) f (i .2) in
-      (i .0, i .1, q .0, q .1)
+  byte-broken k f h = rules-in (byte-holds k) (at-byte k) (length (field-bytes bs k)) f h
 
   fields-broken : (f : FrameFault) → In f (fields-faults bs) → Broken bs 21 f
   unfolding fields-faults
   fields-broken f h =
       let k = over-in (faults-of bs) (entry-count bs) f h in
-      let i = field-broken (k .0) f (k .2) in
-      broken bs 21 f (Field (field-place bs (k .0) + i .0)) (i .2) (refl, (k .0, i .0, k .1, i .1, refl, i .3))
+      let i = byte-broken (k .0) f (k .2) in
+      broken bs 21 f (at-byte (k .0) (i .0)) (i .2) (refl, (k .0, i .0, k .1, i .1, refl, i .3))
 
   end-broken : (f : FrameFault) → In f (end-faults bs) → Broken bs 22 f
-  end-broken f h = let q = rule-in (end-rule bs) (RecordEnd (length bs - 1)) f h in broken bs 22 f (RecordEnd (length bs - 1)) (q .0) (refl, (refl, q .1))
+  end-broken f h =
+      let e = RecordEnd (length bs - 1) in
+      let q = rule-in (end-rule bs) e f h in
+      broken bs 22 f e (q .0) (refl, (refl, q .1))
+
+  -- one stage, or what is left after it
+  stage : (n : ℕ) (f : FrameFault) (xs ys : List FrameFault) → (In f xs → Broken bs n f) → (In f ys → Later bs (n + 1) f) → In f (xs ++ ys) → Later bs n f
+  stage n f xs ys here after h =
+      ⊎-elim
+      (λ m. let q = here m in (omega (arith, q .0), q .1))
+      (λ m. let q = after m in (omega (arith, q .0), q .1))
+      (in-append f xs ys h)
+
+  later-21 : (f : FrameFault) → In f from-21 → Later bs 21 f
+  later-21 f = stage 21 f (fields-faults bs) (end-faults bs) (fields-broken f) (λ m. let q = end-broken f m in (omega (arith, q .0), q .1))
+
+  later-20 : (f : FrameFault) → In f from-20 → Later bs 20 f
+  later-20 f = stage 20 f (directory-faults bs) from-21 (directory-broken f) (later-21 f)
+
+  later-19 : (f : FrameFault) → In f from-19 → Later bs 19 f
+  later-19 f = stage 19 f (leader-faults bs) from-20 (leader-broken f) (later-20 f)
+
+  truly : (f : FrameFault) → In f (frame-faults bs) → Breaks bs f
+  unfolding frame-faults
+  truly f h = stage 18 f (size-faults bs) from-19 (size-broken f) (later-19 f) h .1
 
   -- ---- what is broken stands in the list
 
-  pub listed : (f : FrameFault) → Breaks bs f → In f (frame-faults bs)
+  past-18 : (f : FrameFault) → In f from-19 → In f (frame-faults bs)
+  unfolding frame-faults
+  past-18 f h = in-right f (size-faults bs) from-19 h
+
+  past-19 : (f : FrameFault) → In f from-20 → In f (frame-faults bs)
+  past-19 f h = past-18 f (in-right f (leader-faults bs) from-20 h)
+
+  past-20 : (f : FrameFault) → In f from-21 → In f (frame-faults bs)
+  past-20 f h = past-19 f (in-right f (directory-faults bs) from-21 h)
+
+  listed : (f : FrameFault) → Breaks bs f → In f (frame-faults bs)
   unfolding frame-faults leader-faults directory-faults fields-faults field-faults
-  listed Length b = in-left Length (size-faults bs) _ (in-rule (size-rule bs) Length b)
-  listed (Leader p) b = in-right (Leader p) (size-faults bs) _ (in-left (Leader p) (leader-faults bs) _ (in-over leader-at 24 (Leader p) p (b .0) (in-rule (leader-rule bs p) (Leader p) (b .1))))
-  listed (Entry p) b =
-      let e = Entry (entry-place (b .0)) in
-      let at : In e (directory-faults bs) = in-left e (over (entry-faults bs) 0 (entry-count bs)) (directory-end-faults bs) (in-over (entry-faults bs) (entry-count bs) e (b .0) (b .1) (in-rule (entry-rule bs (b .0)) e (b .3))) in
-      subst (λ q. In (Entry q) (frame-faults bs)) (sym (b .2)) (in-right e (size-faults bs) _ (in-right e (leader-faults bs) _ (in-left e (directory-faults bs) _ at)))
-  listed (DirectoryEnd p) b =
-      let e = DirectoryEnd (entry-place (entry-count bs)) in
-      let at : In e (directory-faults bs) = in-right e (over (entry-faults bs) 0 (entry-count bs)) (directory-end-faults bs) (in-rule (directory-end-rule bs) e (b .1)) in
-      subst (λ q. In (DirectoryEnd q) (frame-faults bs)) (sym (b .0)) (in-right e (size-faults bs) _ (in-right e (leader-faults bs) _ (in-left e (directory-faults bs) _ at)))
-  listed (Field p) b =
-      let k = b .0 in
-      let i = b .1 in
-      let e = Field (field-place bs k + i) in
-      let at : In e (fields-faults bs) = in-over (faults-of bs) (entry-count bs) e k (b .2) (in-over (byte-at k) (length (field-bytes bs k)) e i (b .3) (in-rule (byte-rule (entry-tag bs k) (field-bytes bs k) i) e (b .5))) in
-      subst (λ q. In (Field q) (frame-faults bs)) (sym (b .4)) (in-right e (size-faults bs) _ (in-right e (leader-faults bs) _ (in-right e (directory-faults bs) _ (in-left e (fields-faults bs) _ at))))
-  listed (RecordEnd p) b =
-      let e = RecordEnd (length bs - 1) in
-      let at : In e (end-faults bs) = in-rule (end-rule bs) e (b .1) in
-      subst (λ q. In (RecordEnd q) (frame-faults bs)) (sym (b .0)) (in-right e (size-faults bs) _ (in-right e (leader-faults bs) _ (in-right e (directory-faults bs) _ (in-right e (fields-faults bs) _ at))))
+  listed Length b = in-left Length (size-faults bs) from-19 (in-rule (size-rule bs) Length b)
+  listed (Leader p) b = past-18 (Leader p) (in-left (Leader p) (leader-faults bs) from-20 (in-rules (leader-rule bs) (λ q. Leader q) 24 p (b .0) (b .1)))
+  listed (Entry p) (k, l, at, e) =
+      let f = at-entry k in
+      let in-entries : In f entries = in-rules (entry-rule bs) at-entry (entry-count bs) k l e in
+      rw at (past-19 f (in-left f (directory-faults bs) from-21 (in-left f entries (directory-end-faults bs) in-entries)))
+  listed (DirectoryEnd p) (at, e) =
+      let f = DirectoryEnd (entry-place (entry-count bs)) in
+      rw at (past-19 f (in-left f (directory-faults bs) from-21 (in-right f entries (directory-end-faults bs) (in-rule (directory-end-rule bs) f e))))
+  listed (Field p) (k, i, l, m, at, e) =
+      let f = at-byte k i in
+      let in-field : In f (faults-of bs k) = in-rules (byte-holds k) (at-byte k) (length (field-bytes bs k)) i m e in
+      rw at (past-20 f (in-left f (fields-faults bs) (end-faults bs) (in-over (faults-of bs) (entry-count bs) f k l in-field)))
+  listed (RecordEnd p) (at, e) =
+      let f = RecordEnd (length bs - 1) in
+      rw at (past-20 f (in-right f (fields-faults bs) (end-faults bs) (in-rule (end-rule bs) f e)))
 
   -- ---- the list rises
 
   leader-rises : Rising Before (leader-faults bs)
   unfolding leader-faults
-  leader-rises =
-      rising-over Before leader-at (λ p. rising-rule Before (leader-rule bs p) (Leader p)) (λ a b x y l h k.
-      before x y (Leader a) (Leader b) (rule-in (leader-rule bs a) (Leader a) x h .0) (rule-in (leader-rule bs b) (Leader b) y k .0) (inr (refl, l))) 24
+  leader-rises = rising-rules Before (leader-rule bs) (λ p. Leader p) 24 (λ a b l. inr (refl, l))
 
   directory-rises : Rising Before (directory-faults bs)
   unfolding directory-faults
   directory-rises =
-      let named : (k : ℕ) (x : FrameFault) → In x (entry-faults bs k) → x ≡ Entry (entry-place k) = λ k x h. rule-in (entry-rule bs k) (Entry (entry-place k)) x h .0 in
-      rising-append Before (over (entry-faults bs) 0 (entry-count bs)) (directory-end-faults bs)
-      (rising-over Before (entry-faults bs) (λ k. rising-rule Before (entry-rule bs k) (Entry (entry-place k))) (λ a b x y l h k. before x y (Entry (entry-place a)) (Entry (entry-place b)) (named a x h) (named b y k) (inr (refl, omega arith))) (entry-count bs))
-      (rising-rule Before (directory-end-rule bs) (DirectoryEnd (entry-place (entry-count bs))))
+      let e = DirectoryEnd (entry-place (entry-count bs)) in
+      rising-append Before entries (directory-end-faults bs)
+      (rising-rules Before (entry-rule bs) at-entry (entry-count bs) (λ a b l. inr (refl, omega arith)))
+      (rising-rule Before (directory-end-rule bs) e)
       (λ x y h k.
-      let e = over-in (entry-faults bs) (entry-count bs) x h in
-      before x y (Entry (entry-place (e .0))) (DirectoryEnd (entry-place (entry-count bs))) (named (e .0) x (e .2)) (rule-in (directory-end-rule bs) (DirectoryEnd (entry-place (entry-count bs))) y k .0) (inr (refl, omega (arith, e .1))))
+      let q = rules-in (entry-rule bs) at-entry (entry-count bs) x h in
+      let end = rule-in (directory-end-rule bs) e y k in
+      before x y (at-entry (q .0)) e (q .2) (end .0) (inr (refl, omega (arith, q .1))))
 
   -- a field ends before the next one begins
   apart : (a b i : ℕ) → a < b → i < length (field-bytes bs a) → field-place bs a + i < field-place bs b
@@ -143,41 +185,24 @@ module _ (bs : List ℕ) where
   unfolding fields-faults field-faults
   fields-rise =
       rising-over Before (faults-of bs)
-      (λ k. rising-over Before (byte-at k) (λ i. rising-rule Before (byte-rule (entry-tag bs k) (field-bytes bs k) i) (Field (field-place bs k + i))) (λ a b x y l h m. before x y (Field (field-place bs k + a)) (Field (field-place bs k + b)) (rule-in _ (Field (field-place bs k + a)) x h .0) (rule-in _ (Field (field-place bs k + b)) y m .0) (inr (refl, omega arith))) (length (field-bytes bs k)))
+      (λ k. rising-rules Before (byte-holds k) (at-byte k) (length (field-bytes bs k)) (λ a b l. inr (refl, omega arith)))
       (λ a b x y l h m.
-      let i = field-broken a x h in
-      let j = field-broken b y m in
-      before x y (Field (field-place bs a + i .0)) (Field (field-place bs b + j .0)) (i .2) (j .2) (inr (refl, omega (arith, apart a b (i .0) l (i .1)))))
+      let i = byte-broken a x h in
+      let j = byte-broken b y m in
+      before x y (at-byte a (i .0)) (at-byte b (j .0)) (i .2) (j .2) (inr (refl, omega (arith, apart a b (i .0) l (i .1)))))
       (entry-count bs)
 
-  -- the numbers of what is left, stage by stage
-  from-fields : (f : FrameFault) → In f (fields-faults bs ++ end-faults bs) → (21 ≤ number-of f) × Breaks bs f
-  from-fields f h =
-      ⊎-elim (λ m. let q = fields-broken f m in (omega (arith, q .0), q .1)) (λ m. let q = end-broken f m in (omega (arith, q .0), q .1)) (in-append f (fields-faults bs) (end-faults bs) h)
-
-  from-directory : (f : FrameFault) → In f (directory-faults bs ++ (fields-faults bs ++ end-faults bs)) → (20 ≤ number-of f) × Breaks bs f
-  from-directory f h =
-      ⊎-elim (λ m. let q = directory-broken f m in (omega (arith, q .0), q .1)) (λ m. let q = from-fields f m in (omega (arith, q .0), q .1)) (in-append f (directory-faults bs) (fields-faults bs ++ end-faults bs) h)
-
-  from-leader : (f : FrameFault) → In f (leader-faults bs ++ (directory-faults bs ++ (fields-faults bs ++ end-faults bs))) → (19 ≤ number-of f) × Breaks bs f
-  from-leader f h =
-      ⊎-elim (λ m. let q = leader-broken f m in (omega (arith, q .0), q .1)) (λ m. let q = from-directory f m in (omega (arith, q .0), q .1)) (in-append f (leader-faults bs) (directory-faults bs ++ (fields-faults bs ++ end-faults bs)) h)
-
-  pub truly : (f : FrameFault) → In f (frame-faults bs) → Breaks bs f
-  unfolding frame-faults
-  truly f h = ⊎-elim (λ m. size-broken f m .1) (λ m. from-leader f m .1) (in-append f (size-faults bs) (leader-faults bs ++ (directory-faults bs ++ (fields-faults bs ++ end-faults bs))) h)
-
-  pub rises : Rising Before (frame-faults bs)
+  rises : Rising Before (frame-faults bs)
   unfolding frame-faults
   rises =
-      rising-append Before (size-faults bs) (leader-faults bs ++ (directory-faults bs ++ (fields-faults bs ++ end-faults bs))) (rising-rule Before (size-rule bs) Length)
-      (rising-append Before (leader-faults bs) (directory-faults bs ++ (fields-faults bs ++ end-faults bs)) leader-rises
-      (rising-append Before (directory-faults bs) (fields-faults bs ++ end-faults bs) directory-rises
+      rising-append Before (size-faults bs) from-19 (rising-rule Before (size-rule bs) Length)
+      (rising-append Before (leader-faults bs) from-20 leader-rises
+      (rising-append Before (directory-faults bs) from-21 directory-rises
       (rising-append Before (fields-faults bs) (end-faults bs) fields-rise (rising-rule Before (end-rule bs) (RecordEnd (length bs - 1)))
       (λ x y h k. inl (omega (arith, fields-broken x h .0, end-broken y k .0))))
-      (λ x y h k. inl (omega (arith, directory-broken x h .0, from-fields y k .0))))
-      (λ x y h k. inl (omega (arith, leader-broken x h .0, from-directory y k .0))))
-      (λ x y h k. inl (omega (arith, size-broken x h .0, from-leader y k .0)))
+      (λ x y h k. inl (omega (arith, directory-broken x h .0, later-21 y k .0))))
+      (λ x y h k. inl (omega (arith, leader-broken x h .0, later-20 y k .0))))
+      (λ x y h k. inl (omega (arith, size-broken x h .0, later-19 y k .0)))
 
 -- no two faults go before each other
 not-both : (f g : FrameFault) → Before f g → Before g f → ⊥

@@ -36,7 +36,10 @@ abbrev Ends : List ℕ → Type 0
 Ends bs = (q : ℕ) → suc q ≡ length bs → getD bs q 0 ≡ 30
 
 -- a control field: text and 1E
-control-text : (b : ℕ) (bs : List ℕ) → Ends (b ∷ bs) → ((q : ℕ) → suc q < length (b ∷ bs) → separator (getD (b ∷ bs) q 0) ≡ false) → (t : List ℕ) × Text t × (t ++ (30 ∷ []) ≡ b ∷ bs)
+control-text :
+    (b : ℕ) (bs : List ℕ) → Ends (b ∷ bs)
+    → ((q : ℕ) → suc q < length (b ∷ bs) → separator (getD (b ∷ bs) q 0) ≡ false)
+    → (t : List ℕ) × Text t × (t ++ (30 ∷ []) ≡ b ∷ bs)
 control-text b [] ends plain = ([], tt, ap (λ x. x ∷ []) (sym (ends 0 refl)))
 control-text b (c ∷ bs) ends plain =
     let rest = control-text c bs (λ q h. ends (suc q) (omega arith)) (λ q h. plain (suc q) (omega arith)) in
@@ -66,7 +69,15 @@ one-more : (b : ℕ) (bs : List ℕ) → not (within 29 30 b) ≡ true → (b �
 one-more b bs plain code true e c = let is = eqb-true b 31 e in rw is (begin bs c (code is))
 one-more b bs plain code false e (pieces body ss text are) = pieces (b ∷ body) ss (no-mark b plain e, text) are
 
-cut : (b : ℕ) (bs : List ℕ) → Ends (b ∷ bs) → ((q : ℕ) → suc q < length (b ∷ bs) → not (within 29 30 (getD (b ∷ bs) q 0)) ≡ true) → ((q : ℕ) → suc q < length (b ∷ bs) → getD (b ∷ bs) q 0 ≡ 31 → subfield-code (getD bs q 0) ≡ true) → Cut (b ∷ bs)
+-- no byte but the last is 1D or 1E
+abbrev Open : List ℕ → Type 0
+Open bs = (q : ℕ) → suc q < length bs → not (within 29 30 (getD bs q 0)) ≡ true
+
+-- a subfield code follows each 1F
+abbrev Coded : List ℕ → Type 0
+Coded bs = (q : ℕ) → suc q < length bs → getD bs q 0 ≡ 31 → subfield-code (getD bs (suc q) 0) ≡ true
+
+cut : (b : ℕ) (bs : List ℕ) → Ends (b ∷ bs) → Open (b ∷ bs) → Coded (b ∷ bs) → Cut (b ∷ bs)
 cut b [] ends plain codes = rw (ends 0 refl) (pieces [] [] tt tt)
 cut b (c ∷ bs) ends plain codes =
     one-more b (c ∷ bs) (plain 0 (omega arith)) (codes 0 (omega arith)) (eqb b 31) refl

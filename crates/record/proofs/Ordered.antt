@@ -62,6 +62,17 @@ module _ {F : Type 0} where
   pub over-in : (G : ℕ → List F) (n : ℕ) (f : F) → In f (over G 0 n) → (k : ℕ) × (k < n) × In f (G k)
   over-in G n f h = let q = from-in G 0 (n - 0) f h in (q .0, omega (arith, q .1), rw zero-add at (q .2))
 
+-- a range of rules has the faults of those that are broken
+module _ {F : Type 0} (ok : ℕ → Bool) (fault : ℕ → F) (n : ℕ) where
+  pub in-rules : (k : ℕ) → k < n → ok k ≡ false → In (fault k) (over (λ p. rule (ok p) (fault p)) 0 n)
+  in-rules k l e = in-over (λ p. rule (ok p) (fault p)) n (fault k) k l (in-rule (ok k) (fault k) e)
+
+  pub rules-in : (f : F) → In f (over (λ p. rule (ok p) (fault p)) 0 n) → (k : ℕ) × (k < n) × (f ≡ fault k) × (ok k ≡ false)
+  rules-in f h =
+      let q = over-in (λ p. rule (ok p) (fault p)) n f h in
+      let r = rule-in (ok (q .0)) (fault (q .0)) f (q .2) in
+      (q .0, q .1, r .0, r .1)
+
 module _ {F : Type 0} (R : F → F → Type 0) where
   -- each goes before those that follow it
   abbrev pub Rising : List F → Type 0
@@ -87,6 +98,14 @@ module _ {F : Type 0} (R : F → F → Type 0) where
 
     pub rising-over : (n : ℕ) → Rising (over G 0 n)
     rising-over n = rising-from 0 (n - 0)
+
+  -- rules whose faults rise
+  pub rising-rules : (ok : ℕ → Bool) (fault : ℕ → F) (n : ℕ) → ((a b : ℕ) → a < b → R (fault a) (fault b)) → Rising (over (λ p. rule (ok p) (fault p)) 0 n)
+  rising-rules ok fault n up =
+      rising-over (λ p. rule (ok p) (fault p)) (λ p. rising-rule (ok p) (fault p)) (λ a b x y l h k.
+      let p = rule-in (ok a) (fault a) x h .0 in
+      let q = rule-in (ok b) (fault b) y k .0 in
+      subst (λ u. R u y) (sym p) (subst (R (fault a)) (sym q) (up a b l))) n
 
   -- nothing in a rising list goes before its first
   pub least : ((a b : F) → R a b → R b a → ⊥) → (f : F) (fs : List F) → Rising (f ∷ fs) → (g : F) → R g f → In g (f ∷ fs) → ⊥
