@@ -2,7 +2,7 @@
 use mathlib.Core.Path.{_≡_}
 use mathlib.Core.Bool.{cond}
 use mathlib.Core.List.{List, [], _∷_, _++_, map}
-use Prim.Native.Nat.{ℕ}
+use Prim.Native.Nat.{ℕ, _+_}
 use lib.Dec.{ltb}
 use lib.ListN.{length, drop}
 use Rattle.std.specs.declared.option.Option.{Option}
@@ -32,8 +32,10 @@ rest s = drop (s .place) (s .export .now)
 
 -- nothing is left; or a record of its told length stands there, and what follows it is left; or no record does, and the walk is over
 abbrev pub Steps : Records → Option (Result Offered Stop) → Records → Type 0
-Steps s None t = rest s ≡ []
-Steps s (Some (Ok r)) t = (r .place ≡ s .place) × (length-of (rest s) ≡ Ok (length (r .bytes .now))) × (rest s ≡ r .bytes .now ++ rest t)
+Steps s None t = (rest s ≡ []) × (t ≡ s)
+Steps s (Some (Ok r)) t =
+    (r .place ≡ s .place) × (length-of (rest s) ≡ Ok (length (r .bytes .now))) × (rest s ≡ r .bytes .now ++ rest t)
+    × (t .place ≡ s .place + length (r .bytes .now))
 Steps s (Some (Err f)) t = (f .place ≡ s .place) × (length-of (rest s) ≡ Err (f .why)) × (rest t ≡ [])
 
 abbrev pub end-to-end : List Offered → List ℕ

@@ -11,7 +11,7 @@ use Rattle.exports.proofs.Rests.{front-length, front-then, rest-whole}
 use Rattle.exports.proofs.walk.RecordsIterator.next.Needs as need
 
 pub returns-then-place-self : need.returns-then-place-self
-returns-then-place-self c = record { steps = drop-all _ _ (c .if-place-self .taken); goes = record { on = λ _. tt } }
+returns-then-place-self c = record { steps = (drop-all _ _ (c .if-place-self .taken), refl); goes = record { on = λ _. tt } }
 
 pub returns-in-Err : need.returns-in-Err
 returns-in-Err c =
@@ -28,7 +28,8 @@ returns-in-Ok c =
     let p = c .args .self .now .place in
     let n = c .in-Ok .len in
     let within = c .in-Ok .ensures tt .within in
+    let long = front-length bs p n (within .1) in
     record {
-      steps = (refl, ap length-of (sym (rest-whole bs p)) ∙ sym (c .in-Ok .ensures tt .value) ∙ ap Ok (sym (front-length bs p n (within .1))), front-then bs p n (within .1));
+      steps = (refl, ap length-of (sym (rest-whole bs p)) ∙ sym (c .in-Ok .ensures tt .value) ∙ ap Ok (sym long), front-then bs p n (within .1), ap (λ m. p + m) (sym long));
       goes = record { on = λ _. (tt, tt, omega (arith, length-drop p bs, length-drop (p + n) bs, c .if-place-self .left, within .0)) };
     }
