@@ -3,10 +3,11 @@ use mathlib.Core.Path.{_≡_, sym, ap, _∙_}
 use mathlib.Core.List.{List, [], _∷_, _++_, append-assoc, map}
 use Prim.Native.Nat.{ℕ, _+_, _-_, _≤_}
 use native.Mathlib.Omega.{arith}
-use lib.ListN.{length, take, drop, length-drop, take-append-drop}
+use lib.ListN.{length, take, drop, length-drop}
 use Rattle.std.specs.Iters.{yields}
 use Rattle.std.specs.declared.result.Result.the-variants.{Ok}
-use Rattle.std.proofs.shelf.Lists.{drop-drop, length-take-le, take-all}
+use Rattle.std.proofs.shelf.Lists.{length-take-le, take-all}
+use Rattle.record.proofs.Clamped.{next-part}
 use Rattle.exports.specs.declared.walk.Offered.{Offered}
 use Rattle.exports.specs.declared.walk.Records.{Records}
 use Rattle.exports.specs.Walk.{Steps, end-to-end, rest}
@@ -25,7 +26,7 @@ module _ (bs : List ℕ) (p n : ℕ) (within : n ≤ length (take (length bs - p
 
   -- the first bytes, and what follows them
   pub front-then : drop p bs ≡ take (n - 0) (take (length bs - p) (drop p bs)) ++ drop (p + n) bs
-  front-then = sym (take-append-drop n (drop p bs)) ∙ (λ i. sym front i ++ drop-drop n p bs i)
+  front-then = next-part bs p n ∙ ap (λ l. l ++ drop (p + n) bs) (sym front)
 
 -- what a walk gave and what is left, from any byte on
 pub walked : (s : Records) (rs : List Offered) (t : Records) → yields Steps s (map Ok rs) t → rest s ≡ end-to-end rs ++ rest t

@@ -1,22 +1,29 @@
--- Parts that stop where a list ends. Assumes nothing.
+-- Parts of a list: what follows them, how long they are, and that they stop where the list ends. Assumes nothing.
 use mathlib.Core.Path.{_≡_, sym, ap, _∙_}
 use mathlib.Core.Logic.{⊎-elim}
-use mathlib.Core.List.{List}
-use Prim.Native.Nat.{ℕ, min, _+_, _-_}
+use mathlib.Core.List.{List, _++_}
+use Prim.Native.Nat.{ℕ, min, _+_, _-_, _≤_}
 use native.Mathlib.Nat.{le-refl}
 use native.Mathlib.Omega.{arith}
-use lib.ListN.{length, take, drop, length-drop}
-use Rattle.std.proofs.shelf.Lists.{drop-all, take-all}
+use lib.ListN.{length, take, drop, length-drop, take-append-drop}
+use Rattle.std.proofs.shelf.Lists.{drop-all, drop-drop, length-take-le, take-all}
 use Rattle.std.proofs.shelf.Tests.{cases-lt}
+use Rattle.record.specs.Figures.{part}
 
-pub drop-min : (p : ℕ) (bs : List ℕ) → drop (min p (length bs)) bs ≡ drop p bs
+pub next-part : (bs : List ℕ) (p n : ℕ) → drop p bs ≡ part bs p n ++ drop (p + n) bs
+next-part bs p n = sym (take-append-drop n (drop p bs)) ∙ ap (λ l. part bs p n ++ l) (drop-drop n p bs)
+
+pub length-part : (bs : List ℕ) (p n : ℕ) → p + n ≤ length bs → length (part bs p n) ≡ n
+length-part bs p n h = length-take-le n (drop p bs) (omega (arith, length-drop p bs))
+
+drop-min : (p : ℕ) (bs : List ℕ) → drop (min p (length bs)) bs ≡ drop p bs
 drop-min p bs =
     ⊎-elim
     (λ h. let e : min p (length bs) ≡ p = omega arith in rw e)
     (λ h. let e : min p (length bs) ≡ length bs = omega arith in rw e (drop-all (length bs) bs (le-refl (length bs)) ∙ sym (drop-all p bs h)))
     (cases-lt p (length bs))
 
-pub take-min : (n : ℕ) (bs : List ℕ) → take (min n (length bs)) bs ≡ take n bs
+take-min : (n : ℕ) (bs : List ℕ) → take (min n (length bs)) bs ≡ take n bs
 take-min n bs =
     ⊎-elim
     (λ h. let e : min n (length bs) ≡ n = omega arith in rw e)

@@ -6,11 +6,11 @@ use Prim.Native.Nat.{ℕ, zero, suc, _+_, _-_, _*_, _^_, _<_, _≤_}
 use native.Mathlib.Nat.{add-zero, zero-add}
 use native.Mathlib.Omega.{arith}
 use lib.Dec.{eqb, ltb, lit<}
-use lib.ListN.{length, getD, take, drop, length-append, length-drop, take-append-drop}
+use lib.ListN.{length, getD, take, drop, length-append, length-drop}
 use lib.Seq.{take-add}
 use Rattle.std.specs.shelf.Lists.{All}
 use Rattle.std.proofs.shelf.Elements.{all-append, all-from-getD}
-use Rattle.std.proofs.shelf.Lists.{drop-all, drop-at, drop-drop, drop-more, getD-drop, getD-take, length-take-le, take-all, take-at}
+use Rattle.std.proofs.shelf.Lists.{drop-all, drop-at, drop-drop, drop-more, getD-drop, getD-take, take-all, take-at}
 use Rattle.std.proofs.shelf.Tests.{and-parts, cond-false, cond-true, eqb-true, ltb-true}
 use Rattle.std.proofs.shelf.Ways.{tells}
 use Rattle.record.specs.declared.faults.FrameFault.the-variants as fault
@@ -24,6 +24,7 @@ use Rattle.record.specs.Layout.{Extent, directory, entry, extent, field-laid, 
 use Rattle.record.specs.Leader.{base, entry-count, leader-faults, leader-rule}
 use Rattle.record.specs.Parts.{Field}
 use Rattle.record.specs.Rules.{over, rule}
+use Rattle.record.proofs.Clamped.{length-part, next-part}
 use Rattle.record.proofs.Decimals.{all-digits-append, figure-back, number-fits}
 use Rattle.record.proofs.Opened.{Opened, opened}
 use Rattle.record.proofs.Ranges.{every}
@@ -63,15 +64,9 @@ whole bs framed =
       last = eqb-true _ _ (holds _ _ (d .1));
     }
 
--- bytes from a place on: some of them, or one, and what follows
-next-part : (bs : List ℕ) (p n : ℕ) → drop p bs ≡ part bs p n ++ drop (p + n) bs
-next-part bs p n = sym (take-append-drop n (drop p bs)) ∙ ap (λ l. part bs p n ++ l) (drop-drop n p bs)
-
+-- a byte, and what follows
 next-byte : (bs : List ℕ) (p v : ℕ) → p < length bs → getD bs p 0 ≡ v → drop p bs ≡ v ∷ drop (p + 1) bs
 next-byte bs p v h e = drop-more bs p 0 h ∙ ap (λ x. x ∷ drop (p + 1) bs) e
-
-length-part : (bs : List ℕ) (p n : ℕ) → p + n ≤ length bs → length (part bs p n) ≡ n
-length-part bs p n h = length-take-le n (drop p bs) (omega (arith, length-drop p bs))
 
 -- a number in digits: it fits into them, and is written before what follows
 next-figure : (bs : List ℕ) (p w n : ℕ) → p + w ≤ length bs → all-digits (part bs p w) ≡ true → number (part bs p w) ≡ n → (n < 10 ^ w) × (drop p bs ≡ figure w n ++ drop (p + w) bs)

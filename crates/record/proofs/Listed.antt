@@ -20,7 +20,7 @@ use Rattle.record.specs.Frame.{end-faults, end-rule, frame-faults, frame-of, s
 use Rattle.record.specs.Leader.{entry-count, leader-faults, leader-rule}
 use Rattle.record.specs.Rules.{over, rule, verdict}
 use Rattle.record.specs.Values.{values-of}
-use Rattle.record.proofs.Ordered.{In, Rising, in-append, in-left, in-over, in-right, in-rule, in-rules, least, over-in, rising-append, rising-over, rising-rule, rising-rules, rule-in, rules-in}
+use Rattle.record.proofs.Ordered.{In, Rising, alike, in-append, in-left, in-over, in-right, in-rule, in-rules, least, over-in, rising-append, rising-over, rising-rule, rising-rules, rule-in, rules-in}
 use Rattle.record.proofs.Sound.{sizes-mono, sizes-next}
 use Rattle.record.proofs.Verdicts.{none}
 
@@ -34,10 +34,6 @@ Later bs n f = (n ≤ values-of f .number) × Breaks bs f
 
 broken : (bs : List ℕ) (n : ℕ) (f g : FrameFault) → f ≡ g → Broken bs n g → Broken bs n f
 broken bs n f g e h = subst (Broken bs n) (sym e) h
-
--- two faults by what they are
-before : (x y f g : FrameFault) → x ≡ f → y ≡ g → Before f g → Before x y
-before x y f g p q h = subst (λ u. Before u y) (sym p) (subst (Before f) (sym q) h)
 
 module _ (bs : List ℕ) where
   abbrev entries : List FrameFault
@@ -173,7 +169,7 @@ module _ (bs : List ℕ) where
       (λ x y h k.
       let q = rules-in (entry-rule bs) at-entry (entry-count bs) x h in
       let end = rule-in (directory-end-rule bs) e y k in
-      before x y (at-entry (q .0)) e (q .2) (end .0) (inr (refl, omega (arith, q .1))))
+      alike Before x y (at-entry (q .0)) e (q .2) (end .0) (inr (refl, omega (arith, q .1))))
 
   -- a field ends before the next one begins
   apart : (a b i : ℕ) → a < b → i < length (field-bytes bs a) → field-place bs a + i < field-place bs b
@@ -189,7 +185,7 @@ module _ (bs : List ℕ) where
       (λ a b x y l h m.
       let i = byte-broken a x h in
       let j = byte-broken b y m in
-      before x y (at-byte a (i .0)) (at-byte b (j .0)) (i .2) (j .2) (inr (refl, omega (arith, apart a b (i .0) l (i .1)))))
+      alike Before x y (at-byte a (i .0)) (at-byte b (j .0)) (i .2) (j .2) (inr (refl, omega (arith, apart a b (i .0) l (i .1)))))
       (entry-count bs)
 
   rises : Rising Before (frame-faults bs)

@@ -74,10 +74,10 @@ abbrev Open : List ℕ → Type 0
 Open bs = (q : ℕ) → suc q < length bs → not (within 29 30 (getD bs q 0)) ≡ true
 
 -- a subfield code follows each 1F
-abbrev Coded : List ℕ → Type 0
-Coded bs = (q : ℕ) → suc q < length bs → getD bs q 0 ≡ 31 → subfield-code (getD bs (suc q) 0) ≡ true
+abbrev Codes-follow : List ℕ → Type 0
+Codes-follow bs = (q : ℕ) → suc q < length bs → getD bs q 0 ≡ 31 → subfield-code (getD bs (suc q) 0) ≡ true
 
-cut : (b : ℕ) (bs : List ℕ) → Ends (b ∷ bs) → Open (b ∷ bs) → Coded (b ∷ bs) → Cut (b ∷ bs)
+cut : (b : ℕ) (bs : List ℕ) → Ends (b ∷ bs) → Open (b ∷ bs) → Codes-follow (b ∷ bs) → Cut (b ∷ bs)
 cut b [] ends plain codes = rw (ends 0 refl) (pieces [] [] tt tt)
 cut b (c ∷ bs) ends plain codes =
     one-more b (c ∷ bs) (plain 0 (omega arith)) (codes 0 (omega arith)) (eqb b 31) refl

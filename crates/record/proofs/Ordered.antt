@@ -74,6 +74,10 @@ module _ {F : Type 0} (ok : ℕ → Bool) (fault : ℕ → F) (n : ℕ) where
       (q .0, q .1, r .0, r .1)
 
 module _ {F : Type 0} (R : F → F → Type 0) where
+  -- two elements by what they are
+  pub alike : (x y f g : F) → x ≡ f → y ≡ g → R f g → R x y
+  alike x y f g p q h = subst (λ u. R u y) (sym p) (subst (R f) (sym q) h)
+
   -- each goes before those that follow it
   abbrev pub Rising : List F → Type 0
   Rising [] = Unit {0}
@@ -103,9 +107,7 @@ module _ {F : Type 0} (R : F → F → Type 0) where
   pub rising-rules : (ok : ℕ → Bool) (fault : ℕ → F) (n : ℕ) → ((a b : ℕ) → a < b → R (fault a) (fault b)) → Rising (over (λ p. rule (ok p) (fault p)) 0 n)
   rising-rules ok fault n up =
       rising-over (λ p. rule (ok p) (fault p)) (λ p. rising-rule (ok p) (fault p)) (λ a b x y l h k.
-      let p = rule-in (ok a) (fault a) x h .0 in
-      let q = rule-in (ok b) (fault b) y k .0 in
-      subst (λ u. R u y) (sym p) (subst (R (fault a)) (sym q) (up a b l))) n
+      alike x y (fault a) (fault b) (rule-in (ok a) (fault a) x h .0) (rule-in (ok b) (fault b) y k .0) (up a b l)) n
 
   -- nothing in a rising list goes before its first
   pub least : ((a b : F) → R a b → R b a → ⊥) → (f : F) (fs : List F) → Rising (f ∷ fs) → (g : F) → R g f → In g (f ∷ fs) → ⊥
