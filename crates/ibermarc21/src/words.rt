@@ -1,8 +1,31 @@
 // Refusals in words.
+use crate::files::Position;
 use record::faults::FrameFault;
+use std::io;
+
+// Prints which record is refused, and why.
+pub(crate) fn tell_fault(
+    rt: &LibcRuntime,
+    position: Position<'_>,
+    fault: FrameFault,
+) -> io::Result<()> {
+    let Position {
+        name,
+        ordinal,
+        byte,
+    } = position;
+    let values = fault.values();
+    let number = values.number;
+    let place = values.place;
+    let words = meaning(fault);
+    println!(
+        rt,
+        "{name}: record {ordinal} at byte {byte}: refused, {number} at {place}: {words}"
+    )
+}
 
 // What a fault of the frame means.
-pub(crate) fn meaning(fault: FrameFault) -> &'static str {
+fn meaning(fault: FrameFault) -> &'static str {
     match fault {
         FrameFault::Length => "the record is not 26 to 99,999 bytes long",
         FrameFault::Leader { place: 0 } =>

@@ -1,29 +1,18 @@
--- The starts of fields, from their extents. Assumes nothing.
+-- Extents that an entry has room for, and the starts of fields. Assumes nothing.
 use mathlib.Core.Path.{_≡_, sym, ap, _∙_}
+use mathlib.Core.Bool.{true}
 use mathlib.Core.List.{List, [], _∷_, _++_}
 use Prim.Native.Nat.{ℕ, _+_, _<_, _≤_}
 use native.Mathlib.Nat.{add-assoc, zero-add}
 use native.Mathlib.Omega.{arith}
-use lib.ListN.{length, getD, take, drop, take-append-drop}
-use Rattle.std.proofs.shelf.Lists.{drop-more, take-more}
-use Rattle.record.specs.Layout.{Extent}
-
--- the lengths added up
-abbrev pub total : List Extent → ℕ
-total [] = 0
-total (e ∷ es) = e .size + total es
-
--- where there is no field
-abbrev pub no-extent : Extent
-no-extent = record { tag = 0; size = 0 }
-
--- the extent of field k
-abbrev pub extent-of : List Extent → ℕ → Extent
-extent-of es k = getD es k no-extent
-
--- the start of field k: the lengths before it, added up
-abbrev pub starts : List Extent → ℕ → ℕ
-starts es k = total (take k es)
+use lib.ListN.{length, take, drop, take-append-drop}
+use Rattle.std.proofs.shelf.Lists.{drop-more, take-all, take-more}
+use Rattle.std.proofs.shelf.Tests.{and-from, and-parts, le-leb}
+use Rattle.record.specs.declared.extent.Extent.{Extent}
+use Rattle.record.specs.Classes.{within}
+use Rattle.record.specs.Extents.{extent-of, no-extent, starts, total}
+use Rattle.record.specs.PartsFaults.{extent-rule}
+use Rattle.record.proofs.Sound.{between}
 
 -- an entry has room for the tag and for the length, and neither is 0
 pub record Fits (e : Extent) : Type 0 where
@@ -32,9 +21,26 @@ pub record Fits (e : Extent) : Type 0 where
   pub some-size : 1 ≤ e .size
   pub small-size : e .size < 10000
 
+-- what the rule for an extent says, and when it holds
+module _ (e : Extent) (start : ℕ) where
+  pub fits-when : extent-rule e start ≡ true → Fits e
+  fits-when ok =
+      let ps = and-parts (within 1 999 (e .tag)) _ ok in
+      let tag = between 1 999 (e .tag) (sym (ps .0)) in
+      let size = between 1 9999 (e .size) (sym (and-parts (within 1 9999 (e .size)) _ (ps .1) .0)) in
+      record { some-tag = tag .0; small-tag = omega arith; some-size = size .0; small-size = omega arith }
+
+  pub rule-when : Fits e → start ≤ 99999 → extent-rule e start ≡ true
+  rule-when f low =
+      and-from _ _ (and-from _ _ (le-leb 1 (e .tag) (f .some-tag)) (le-leb (e .tag) 999 (omega arith)))
+      (and-from _ _ (and-from _ _ (le-leb 1 (e .size) (f .some-size)) (le-leb (e .size) 9999 (omega arith))) (le-leb start 99999 low))
+
 total-append : (xs ys : List Extent) → total (xs ++ ys) ≡ total xs + total ys
 total-append [] ys = sym (zero-add (total ys))
 total-append (x ∷ xs) ys = ap (λ n. x .size + n) (total-append xs ys) ∙ sym (add-assoc (x .size) (total xs) (total ys))
+
+pub starts-all : (es : List Extent) (k : ℕ) → length es ≤ k → starts es k ≡ total es
+starts-all es k h = ap total (take-all k es h)
 
 module _ (es : List Extent) (k : ℕ) (within : k < length es) where
   pub starts-next : starts es (k + 1) ≡ starts es k + extent-of es k .size

@@ -1,6 +1,6 @@
 -- A record whose frame holds is well-formed parts, laid out. Assumes nothing.
 use mathlib.Core.Path.{_≡_, refl, sym, ap, _∙_}
-use mathlib.Core.Bool.{true, false, _&&_}
+use mathlib.Core.Bool.{true, _&&_}
 use mathlib.Core.List.{List, [], _∷_, _++_, append-assoc, map}
 use Prim.Native.Nat.{ℕ, zero, suc, _+_, _-_, _*_, _^_, _<_, _≤_}
 use native.Mathlib.Nat.{add-zero, zero-add}
@@ -9,22 +9,21 @@ use lib.Dec.{eqb, ltb, lit<}
 use lib.ListN.{length, getD, take, drop, length-append, length-drop}
 use lib.Seq.{take-add}
 use Rattle.std.specs.shelf.Lists.{All}
-use Rattle.std.proofs.shelf.Elements.{all-append, all-from-getD}
-use Rattle.std.proofs.shelf.Lists.{drop-all, drop-at, drop-drop, drop-more, getD-drop, getD-take, take-all, take-at}
-use Rattle.std.proofs.shelf.Tests.{and-parts, cond-false, cond-true, eqb-true, ltb-true}
-use Rattle.std.proofs.shelf.Ways.{tells}
+use Rattle.std.proofs.shelf.Lists.{drop-all, drop-drop, drop-more}
+use Rattle.std.proofs.shelf.Tests.{and-parts, eqb-true, ltb-true}
 use Rattle.record.specs.declared.faults.FrameFault.the-variants as fault
-use Rattle.record.specs.Classes.{code-character, code-position}
+use Rattle.record.specs.Classes.{code-character}
 use Rattle.record.specs.Contents.{byte-rule, faults-of, field-bytes, field-faults, field-place, fields-faults}
 use Rattle.record.specs.Directory.{directory-end-rule, directory-faults, entry-faults, entry-place, entry-rule, entry-size, entry-start, entry-tag, sizes-before}
 use Rattle.record.specs.Figures.{all-digits, number, part}
 use Rattle.record.specs.Formed.{Formed-field, Laid-out}
 use Rattle.record.specs.Frame.{Framed, end-faults, frame-faults, size-faults}
-use Rattle.record.specs.Layout.{Extent, directory, entry, extent, field-laid, fields-laid, figure, laid, laid-length, layout, leader}
-use Rattle.record.specs.Leader.{base, entry-count, leader-faults, leader-rule}
+use Rattle.record.specs.declared.extent.Extent.{Extent}
+use Rattle.record.specs.Layout.{directory, entry, extent, field-laid, fields-laid, figure, laid, laid-length, layout, leader}
+use Rattle.record.specs.Leader.{base, codes-of, entry-count, leader-faults, leader-rule}
 use Rattle.record.specs.Parts.{Field}
 use Rattle.record.specs.Rules.{over, rule}
-use Rattle.record.proofs.Clamped.{length-part, next-part}
+use Rattle.record.proofs.Clamped.{length-part, next-part, part-bytes}
 use Rattle.record.proofs.Decimals.{all-digits-append, figure-back, number-fits}
 use Rattle.record.proofs.Opened.{Opened, opened}
 use Rattle.record.proofs.Ranges.{every}
@@ -74,29 +73,15 @@ next-figure bs p w n room ok is =
     let long = length-part bs p w room in
     (number-fits (part bs p w) w n long ok is, next-part bs p w ∙ ap (λ l. l ++ drop (p + w) bs) (sym (figure-back (part bs p w) w n long ok is)))
 
--- the eight codes of the leader
-abbrev codes-of : List ℕ → List ℕ
-codes-of bs = part bs 5 5 ++ part bs 17 3
-
 -- the extent that entry k says
 abbrev entry-extent : List ℕ → ℕ → Extent
 entry-extent bs k = record { tag = entry-tag bs k; size = entry-size bs k }
 
--- digits in two parts, and what holds of each byte of a part
+-- digits in two parts
 digits-parts : (bs : List ℕ) (p n m : ℕ) → all-digits (part bs p (n + m)) ≡ true → (all-digits (part bs p n) ≡ true) × (all-digits (part bs (p + n) m) ≡ true)
 digits-parts bs p n m ok =
     let both : part bs p (n + m) ≡ part bs p n ++ part bs (p + n) m = take-add n m (drop p bs) ∙ ap (λ l. part bs p n ++ take m l) (drop-drop n p bs) in
     and-parts _ _ (sym (ap all-digits both ∙ all-digits-append (part bs p n) (part bs (p + n) m)) ∙ ok)
-
-all-part : (P : ℕ → Type 0) (bs : List ℕ) (p n : ℕ) → p + n ≤ length bs → ((i : ℕ) → i < n → P (getD bs (p + i) 0)) → All P (part bs p n)
-all-part P bs p n room h =
-    all-from-getD P (part bs p n) 0 (λ i l. let below : i < n = omega (arith, length-part bs p n room) in rw (getD-take n (drop p bs) i 0 below, getD-drop p bs i 0) (h i below))
-
--- what the rule says at a code position
-code-at : (bs : List ℕ) (p : ℕ) → code-position p ≡ true → leader-rule bs p ≡ true → code-character (getD bs p 0) ≡ true
-code-at bs p is holding =
-    let other : eqb p 0 ≡ false = grind (arith, tells) in
-    sym (cond-false _ _ _ other ∙ cond-true _ _ _ is) ∙ holding
 
 -- what entry k says, and how it is written
 record Listed (bs : List ℕ) (k : ℕ) : Type 0 where
@@ -135,24 +120,12 @@ module _ (bs : List ℕ) (w : Whole bs) where
 
   leader-back : bs ≡ leader (codes-of bs) (length bs) (base bs) ++ drop 24 bs
   leader-back =
-      let five = length-part bs 5 5 (omega arith) in
-      let three = length-part bs 17 3 (omega arith) in
-      let a : take 5 (codes-of bs) ≡ part bs 5 5 = take-at (part bs 5 5) (part bs 17 3) 5 five in
-      let b : take 3 (drop 5 (codes-of bs)) ≡ part bs 17 3 = ap (take 3) (drop-at (part bs 5 5) (part bs 17 3) 5 five) ∙ take-all 3 (part bs 17 3) (omega arith) in
-      rw (a, b) (leader-parts ∙ sym (simp append-assoc))
-
-  codes-length : length (codes-of bs) ≡ 8
-  codes-length =
-      let five = length-part bs 5 5 (omega arith) in
-      let three = length-part bs 17 3 (omega arith) in
-      length-append (part bs 5 5) (part bs 17 3) ∙ omega arith
+      let five : part bs 5 5 ≡ take 5 (codes-of bs) = part-bytes bs 5 5 (omega arith) in
+      let three : part bs 17 3 ≡ take 3 (drop 5 (codes-of bs)) = part-bytes bs 17 3 (omega arith) in
+      (rw (five, three) at leader-parts) ∙ sym (simp append-assoc)
 
   codes-are : All (λ c. code-character c ≡ true) (codes-of bs)
-  codes-are =
-      let Code : ℕ → Type 0 = λ c. code-character c ≡ true in
-      all-append Code (part bs 5 5) (part bs 17 3)
-      (all-part Code bs 5 5 (omega arith) (λ i h. code-at bs (5 + i) (grind (arith, tells)) (w .position (5 + i) (omega arith))))
-      (all-part Code bs 17 3 (omega arith) (λ i h. code-at bs (17 + i) (grind (arith, tells)) (w .position (17 + i) (omega arith))))
+  codes-are = (w .position 5 (lit< tt), (w .position 6 (lit< tt), (w .position 7 (lit< tt), (w .position 8 (lit< tt), (w .position 9 (lit< tt), (w .position 17 (lit< tt), (w .position 18 (lit< tt), (w .position 19 (lit< tt), tt))))))))
 
   entry-back : (k : ℕ) → k < entry-count bs → Listed bs k
   entry-back k h =
@@ -240,6 +213,6 @@ framed-laid bs framed =
     let end-to-end = back bs w all in
     record {
       parts = record { codes = codes-of bs; fields = all .fields };
-      formed = record { eight = codes-length bs w; codes-are = codes-are bs w; fields-are = all .formed; fields-fit = all .fit; fits = omega (arith, ap length end-to-end) };
+      formed = record { eight = refl; codes-are = codes-are bs w; fields-are = all .formed; fields-fit = all .fit; fits = omega (arith, ap length end-to-end) };
       end-to-end = end-to-end;
     }

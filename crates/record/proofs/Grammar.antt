@@ -49,7 +49,7 @@ coded-at (b ∷ bs) ok zero = ok .0
 coded-at (b ∷ bs) ok (suc i) = coded-at bs (ok .1) i
 
 -- what the classes of bytes leave out
-text-31 : (b : ℕ) → separator b ≡ false → eqb b 31 ≡ false
+pub text-31 : (b : ℕ) → separator b ≡ false → eqb b 31 ≡ false
 text-31 b e = grind (arith, tells)
 
 text-30 : (b : ℕ) → separator b ≡ false → within 29 30 b ≡ false
@@ -58,7 +58,7 @@ text-30 b e = grind (arith, tells)
 code-text : (b : ℕ) → code-character b ≡ true → separator b ≡ false
 code-text b e = grind (arith, tells)
 
-subfield-text : (s : Subfield) → Formed-subfield s → Text (s .code ∷ s .body)
+pub subfield-text : (s : Subfield) → Formed-subfield s → Text (s .code ∷ s .body)
 subfield-text s ok = (code-text (s .code) (or-right _ _ (ok .code-is)), ok .body-is)
 
 coded-text : (bs rest : List ℕ) → Text bs → Coded rest → Coded (bs ++ rest)

@@ -1,19 +1,20 @@
--- A leader that was laid out has no fault. Assumes nothing.
+-- The faults of a leader that was laid out are those of its codes. Assumes nothing.
 use mathlib.Core.Path.{_≡_, sym, ap, _∙_}
 use mathlib.Core.Bool.{true}
 use mathlib.Core.List.{List, [], _∷_, _++_}
 use Prim.Native.Nat.{ℕ, _+_, _-_, _*_, _/_, _<_}
 use native.Mathlib.Omega.{arith}
 use lib.ListN.{length, take, drop, length-append, length-drop}
-use Rattle.std.specs.shelf.Lists.{All}
 use Rattle.std.proofs.shelf.Lists.{length-take-le}
 use Rattle.std.proofs.shelf.Tests.{and-from, eq-eqb, lt-ltb}
+use Rattle.record.specs.declared.faults.FrameFault.{FrameFault}
 use Rattle.record.specs.declared.faults.FrameFault.the-variants.{Leader}
 use Rattle.record.specs.Classes.{code-character}
 use Rattle.record.specs.Figures.{number}
 use Rattle.record.specs.Layout.{digits, leader}
 use Rattle.record.specs.Leader.{base, base-rule, leader-faults, length-rule}
-use Rattle.record.specs.Rules.{from, rule}
+use Rattle.record.specs.PartsFaults.{code-faults}
+use Rattle.record.specs.Rules.{from, over, rule}
 use Rattle.record.proofs.Decimals.{digits-all, figure-digits, length-figure, number-digits}
 
 pub length-leader : (codes : List ℕ) (len b : ℕ) → length codes ≡ 8 → length (leader codes len b) ≡ 24
@@ -48,22 +49,23 @@ module _ (len bas : ℕ) (rest : List ℕ) (len-fits : len < 100000) (base-fits 
   leader-base cs eight = ap base (plain-is cs) ∙ by-eight (λ l. base (plain l) ≡ bas) (λ a b c d e f g h. number-digits 5 bas base-fits) cs eight
 
   module _ (whole : bas ≡ 25 + 12 * ((bas - 25) / 12)) (inside : bas < len) where
-    abbrev Clear : List ℕ → Type 0
-    Clear cs = All (λ c. code-character c ≡ true) cs → length (plain cs) ≡ len → leader-faults (plain cs) ≡ []
+    abbrev Judged : List ℕ → Type 0
+    Judged cs = length (plain cs) ≡ len → leader-faults (plain cs) ≡ over (code-faults cs) 0 8
 
-    clear-eight : (a b c d e f g h : ℕ) → Clear (a ∷ b ∷ c ∷ d ∷ e ∷ f ∷ g ∷ h ∷ [])
+    eight-judged : (a b c d e f g h : ℕ) → Judged (a ∷ b ∷ c ∷ d ∷ e ∷ f ∷ g ∷ h ∷ [])
     unfolding leader-faults from
-    clear-eight a b c d e f g h (pa, (pb, (pc, (pd, (pe, (pf, (pg, (ph, _)))))))) long =
+    eight-judged a b c d e f g h long =
         let bs = plain (a ∷ b ∷ c ∷ d ∷ e ∷ f ∷ g ∷ h ∷ []) in
         let n = number-digits 5 bas base-fits in
         let first : length-rule bs ≡ true = and-from _ _ (digits-all 5 len) (eq-eqb _ _ (number-digits 5 len len-fits ∙ sym long)) in
         let room : number (digits 5 bas) ≡ 25 + 12 * ((number (digits 5 bas) - 25) / 12) = n ∙ whole ∙ ap (λ m. 25 + 12 * ((m - 25) / 12)) (sym n) in
         let second : base-rule bs ≡ true = and-from _ _ (digits-all 5 bas) (and-from _ _ (eq-eqb _ _ room) (lt-ltb (number (digits 5 bas)) (length bs) (omega arith))) in
+        let code : ℕ → ℕ → List FrameFault = λ b p. rule (code-character b) (Leader p) in
         λ i.
         rule (first i) (Leader 0)
-        ++ (rule (pa i) (Leader 5) ++ (rule (pb i) (Leader 6) ++ (rule (pc i) (Leader 7) ++ (rule (pd i) (Leader 8) ++ (rule (pe i) (Leader 9)
+        ++ (code a 5 ++ (code b 6 ++ (code c 7 ++ (code d 8 ++ (code e 9
         ++ (rule (second i) (Leader 12)
-        ++ (rule (pf i) (Leader 17) ++ (rule (pg i) (Leader 18) ++ (rule (ph i) (Leader 19) ++ [])))))))))
+        ++ (code f 17 ++ (code g 18 ++ (code h 19 ++ [])))))))))
 
-    pub leader-clear : (cs : List ℕ) → length cs ≡ 8 → All (λ c. code-character c ≡ true) cs → length (leader cs len bas ++ rest) ≡ len → leader-faults (leader cs len bas ++ rest) ≡ []
-    leader-clear cs eight ok long = ap leader-faults (plain-is cs) ∙ by-eight Clear clear-eight cs eight ok (ap length (sym (plain-is cs)) ∙ long)
+    pub leader-judged : (cs : List ℕ) → length cs ≡ 8 → length (leader cs len bas ++ rest) ≡ len → leader-faults (leader cs len bas ++ rest) ≡ over (code-faults cs) 0 8
+    leader-judged cs eight long = ap leader-faults (plain-is cs) ∙ by-eight Judged eight-judged cs eight (ap length (sym (plain-is cs)) ∙ long)

@@ -16,3 +16,10 @@ pub mod Laid
 pub mod Grammar
 pub mod Back
 pub mod Whole
+pub mod Handed
+pub mod Pieces
+pub mod Reopened
+pub mod Reread
+pub mod Trips
+pub mod Judged
+pub mod Puts

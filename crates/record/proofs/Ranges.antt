@@ -1,4 +1,4 @@
--- How a loop over a range finds the first fault of a list of rules, and what a range without faults says. Assumes nothing.
+-- How a loop over a range finds the first fault of a list of rules, what a range without faults says, and when two ranges have the same first fault. Assumes nothing.
 use mathlib.Core.Path.{_≡_, refl, sym, ap, subst, _∙_}
 use mathlib.Core.Bool.{Bool, true, false}
 use mathlib.Core.List.{List, [], _∷_, _++_}
@@ -8,7 +8,7 @@ use native.Mathlib.Numerals.{add-one}
 use native.Mathlib.Omega.{arith}
 use Rattle.std.specs.declared.result.Result.the-variants.{Err}
 use Rattle.record.specs.Rules.{rule, from, over, verdict}
-use Rattle.record.proofs.Verdicts.{first, parts, skip}
+use Rattle.record.proofs.Verdicts.{alike, first, parts, skip}
 
 module _ {F : Type 0} (G : ℕ → List F) (a b : ℕ) where
   pub next : a < b → over G a b ≡ G a ++ over G (a + 1) b
@@ -63,3 +63,22 @@ clear-from G p (suc n) h =
 
 pub clear : {F : Type 0} (G : ℕ → List F) (n : ℕ) → ((k : ℕ) → k < n → G k ≡ []) → over G 0 n ≡ []
 clear G n h = clear-from G 0 (n - 0) (λ k l. rw zero-add (h k (omega arith)))
+
+-- two ranges that agree up to the first fault
+agree-from : {F X : Type 0} (G H : ℕ → List F) (x : X) (p n : ℕ) → ((k : ℕ) → k < n → ((j : ℕ) → j < k → H (p + j) ≡ []) → G (p + k) ≡ H (p + k)) → verdict (from G p n) x ≡ verdict (from H p n) x
+unfolding from
+agree-from G H x p zero h = refl
+agree-from G H x p (suc n) h =
+    let here : G p ≡ H p = rw add-zero at (h 0 (omega arith) (λ j l. absurd (omega arith))) in
+    alike (G p) (H p) (from G (suc p) n) (from H (suc p) n) x (ap (λ l. verdict l x) here) (λ none.
+    agree-from G H x (suc p) n (λ k l before.
+    let q : p + suc k ≡ suc p + k = omega arith in
+    rw q at (h (suc k) (omega arith) (elim [
+      | zero ↦ λ _. rw add-zero none
+      | suc j ↦ λ m. let r : p + suc j ≡ suc p + j = omega arith in rw r (before j (omega arith))
+    ]))))
+
+pub agree : {F X : Type 0} (G H : ℕ → List F) (x : X) (n : ℕ) → ((k : ℕ) → k < n → ((j : ℕ) → j < k → H j ≡ []) → G k ≡ H k) → verdict (over G 0 n) x ≡ verdict (over H 0 n) x
+agree G H x n h =
+    agree-from G H x 0 (n - 0) (λ k l before.
+    rw zero-add (h k (omega arith) (λ j m. rw zero-add at (before j m))))

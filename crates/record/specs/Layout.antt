@@ -4,6 +4,7 @@ use mathlib.Core.List.{List, [], _∷_, _++_, map}
 use Prim.Native.Nat.{ℕ, zero, suc, _+_, _*_, _/_, _%_, _^_}
 use lib.Dec.{ltb}
 use lib.ListN.{length, take, drop, replicate}
+use Rattle.record.specs.declared.extent.Extent.{Extent}
 use Rattle.record.specs.Parts.{Field, Parts, Subfield, tag-of}
 use Rattle.record.specs.Parts.Field.{Control, Data}
 
@@ -15,11 +16,6 @@ digits (suc w) n = digits w (n / 10) ++ ((48 + n % 10) ∷ [])
 -- a number in w digits; one that is too wide for them is no figure
 abbrev pub figure : ℕ → ℕ → List ℕ
 figure w n = cond (ltb n (10 ^ w)) (digits w n) (replicate w 42)
-
--- the tag and the length of a field, as its entry has them
-pub record Extent : Type 0 where
-  pub tag : ℕ
-  pub size : ℕ
 
 -- an entry: tag, length and start
 abbrev pub entry : Extent → ℕ → List ℕ

@@ -1,6 +1,6 @@
 -- The leader, bytes 0 to 23. Assumes nothing.
 use mathlib.Core.Bool.{Bool, true, _&&_, _||_, cond}
-use mathlib.Core.List.{List}
+use mathlib.Core.List.{List, [], _∷_, map}
 use Prim.Native.Nat.{ℕ, _+_, _-_, _*_, _/_}
 use lib.Dec.{eqb, ltb}
 use lib.ListN.{length, getD}
@@ -17,6 +17,14 @@ base bs = number (part bs 12 5)
 -- the number of directory entries, n where the base is 25 + 12n
 abbrev pub entry-count : List ℕ → ℕ
 entry-count bs = (base bs - 25) / 12
+
+-- the positions of the eight codes
+abbrev pub code-positions : List ℕ
+code-positions = 5 ∷ 6 ∷ 7 ∷ 8 ∷ 9 ∷ 17 ∷ 18 ∷ 19 ∷ []
+
+-- the codes that stand there
+abbrev pub codes-of : List ℕ → List ℕ
+codes-of bs = map (λ p. getD bs p 0) code-positions
 
 -- five digits that say how long the record is
 abbrev pub length-rule : List ℕ → Bool

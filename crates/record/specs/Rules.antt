@@ -1,9 +1,11 @@
 -- Rules in their order: the faults of those that are broken, and the answer that they give. Assumes nothing.
+use mathlib.Core.Path.{_≡_}
 use mathlib.Core.Bool.{Bool, true, false}
 use mathlib.Core.List.{List, [], _∷_, _++_}
 use Prim.Native.Nat.{ℕ, zero, suc, _-_}
 use Rattle.std.specs.declared.result.Result.{Result}
 use Rattle.std.specs.declared.result.Result.the-variants.{Ok, Err}
+use Rattle.std.specs.Results.{Cases}
 
 -- the fault f where a rule is broken
 abbrev pub rule : {F : Type 0} → Bool → F → List F
@@ -23,3 +25,8 @@ over G a b = from G a (b - a)
 abbrev pub verdict : {F X : Type 0} → List F → X → Result X F
 verdict [] x = Ok x
 verdict (f ∷ fs) x = Err f
+
+-- the same, where the value is known by what holds of it
+abbrev pub Answers : {F X : Type 0} → List F → (X → Type 0) → Result X F → Type 0
+Answers [] P r = Cases r P (λ _. ⊥)
+Answers (f ∷ fs) P r = Cases r (λ _. ⊥) (λ g. g ≡ f)

@@ -55,7 +55,7 @@ fn byte_holds(tag: usize, field: &[u8], i: usize) -> bool
 }
 
 // The first fault of a field that begins at this place, or none.
-fn check_field(tag: usize, field: &[u8], place: usize) -> Result<(), FrameFault>
+pub(crate) fn check_field(tag: usize, field: &[u8], place: usize) -> Result<(), FrameFault>
     requires { ⌜ place + length (now field) ≤ 99999 ⌝ }
     ensures { λ r. ⌜ r ≡ verdict (field-faults tag (now (field .entry)) place) tt ⌝ }
 {

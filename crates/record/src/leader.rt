@@ -9,6 +9,9 @@ use crate::faults::FrameFault;
 use crate::figures::is_figure_at;
 use crate::figures::number_at;
 
+// The positions of the eight leader codes.
+pub(crate) const CODE_POSITIONS: [usize; 8] = [5, 6, 7, 8, 9, 17, 18, 19];
+
 // Whether the first five bytes say how long the record is.
 fn length_holds(bytes: &[u8]) -> bool
     ensures { λ r. ⌜ r ≡ length-rule (now (bytes .entry)) ⌝ }

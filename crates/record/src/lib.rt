@@ -17,3 +17,14 @@ mod leader;
 pub mod c_call;
 pub mod examples;
 pub mod frame;
+
+// Reading: cursors over fields and subfields.
+pub mod extent;
+pub mod fields;
+pub mod reading;
+pub mod subfields;
+
+// Writing: a record from its parts.
+mod output;
+mod parts;
+pub mod writing;
