@@ -8,7 +8,7 @@ use Rattle.std.specs.declared.result.Result.{Result}
 use Rattle.std.specs.declared.result.Result.the-variants.{Ok, Err}
 use Rattle.std.specs.Results.{ErrBy}
 use Rattle.std.proofs.shelf.Results.{err-from-errBy}
-use Rattle.record.specs.Rules.{Answers, rule, verdict}
+use Rattle.record.specs.Rules.{Verdict, rule, verdict}
 
 module _ {F X : Type 0} where
   -- a check that passed found no fault, and gave its value
@@ -57,12 +57,12 @@ returned r e h = let p = err-from-errBy r h in p .1 ∙ ap Err (p .2)
 
 -- an answer that is known by what holds of its value
 module _ {F X : Type 0} (P : X → Type 0) (fs : List F) where
-  pub answered : fs ≡ [] → (x : X) → P x → Answers fs P (Ok x)
-  answered e x h = subst (λ l. Answers l P (Ok x)) (sym e) h
+  pub answered : fs ≡ [] → (x : X) → P x → Verdict fs P (Ok x)
+  answered e x h = subst (λ l. Verdict l P (Ok x)) (sym e) h
 
-  pub held : (x : X) → Answers fs P (Ok x) → P x
-  held x = by fs
+  pub known : (x : X) → Verdict fs P (Ok x) → P x
+  known x = by fs
     where
-      by : (gs : List F) → Answers gs P (Ok x) → P x
+      by : (gs : List F) → Verdict gs P (Ok x) → P x
       by [] h = h
       by (g ∷ gs) h = absurd h

@@ -27,6 +27,6 @@ verdict [] x = Ok x
 verdict (f ∷ fs) x = Err f
 
 -- the same, where the value is known by what holds of it
-abbrev pub Answers : {F X : Type 0} → List F → (X → Type 0) → Result X F → Type 0
-Answers [] P r = Cases r P (λ _. ⊥)
-Answers (f ∷ fs) P r = Cases r (λ _. ⊥) (λ g. g ≡ f)
+abbrev pub Verdict : {F X : Type 0} → List F → (X → Type 0) → Result X F → Type 0
+Verdict [] P r = Cases r P (λ _. ⊥)
+Verdict (f ∷ fs) P r = Cases r (λ _. ⊥) (λ g. g ≡ f)

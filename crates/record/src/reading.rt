@@ -1,12 +1,14 @@
 // Reading a record whose frame holds.
+ghost use mathlib.Core.List.{List};
 ghost use mathlib.Core.Path.{_≡_};
+ghost use Prim.Native.Nat.{ℕ};
 ghost use Rattle.std.specs.Iters.{gives};
 ghost use Rattle.record.specs.Cursors.{Field-step, Subfield-step, bytes-in, fields-in, fields-left, seen-field, seen-subfield, subfields-left};
 ghost use Rattle.record.specs.Figures.{part};
 ghost use Rattle.record.specs.Frame.{frame-faults};
 ghost use Rattle.record.specs.Leader.{codes-of};
-ghost use Rattle.record.specs.Reading.{contents-of};
-ghost use Rattle.record.specs.Rules.{Answers};
+ghost use Rattle.record.specs.Reading.{bare, contents-of, parts-of};
+ghost use Rattle.record.specs.Rules.{Verdict};
 ghost use Rattle.record.specs.Trips.{Reads};
 ghost use Rattle.record.specs.declared.subfields.Subfields.{Subfields};
 use crate::faults::FrameFault;
@@ -27,7 +29,7 @@ pub struct Record<'a> {
 
 // The record, or the first fault of its frame.
 pub fn read<'a>(record: &'a [u8]) -> Result<Record<'a>, FrameFault>
-    ensures { λ r. ⌜ Answers (frame-faults (now («record» .entry))) (Reads (now («record» .entry))) r ⌝ }
+    ensures { λ r. ⌜ Verdict (frame-faults (now («record» .entry))) (Reads (now («record» .entry))) r ⌝ }
 {
     let frame = check(record)?;
     Ok(Record {
@@ -65,6 +67,7 @@ impl<'a> Record<'a> {
     pub fn fields(&self) -> Fields<'a>
         ensures left { λ r. ⌜ fields-left r ≡ fields-in (now (self .entry)) ⌝ }
         ensures fields { λ r. ⌜ gives Field-step seen-field r (fields-in (now (self .entry))) ⌝ }
+        ensures parts { λ r. ⌜ ((bs : List ℕ) → Reads bs (now (self .entry)) → gives Field-step (λ f. bare (seen-field f)) r (parts-of bs .fields)) ⌝ }
         ensures subfields { λ _. ⌜ ((s : Subfields) → gives Subfield-step seen-subfield s (subfields-left s)) ⌝ }
     {
         Fields::new(self.bytes, self.frame.entries())

@@ -78,6 +78,7 @@ mod tests {
     use super::WriteFaultDebug;
     use super::WriteFaultPartialEq;
     use super::write;
+    use crate::c_call::ibermarc21_frame_check;
     use crate::examples::record_a;
     use crate::extent::Extent;
     use crate::faults::FrameFault;
@@ -145,5 +146,77 @@ mod tests {
             refused(FrameFault::Field { place: 39 }),
         )?;
         check(out == [b'-'; 46])
+    }
+
+    fn set(bytes: &mut [u8], place: usize, byte: u8) {
+        if place < bytes.len() {
+            bytes[place] = byte;
+        }
+    }
+
+    // Two blank indicators, 1F and a at the start of a field, and 1E at its end.
+    fn mark_field(bytes: &mut [u8], start: u32, size: u16) {
+        let start = start as usize;
+        set(bytes, start, b' ');
+        set(bytes, start + 1, b' ');
+        set(bytes, start + 2, 0x1f);
+        set(bytes, start + 3, b'a');
+        set(bytes, start + usize::from(size.saturating_sub(1)), 0x1e);
+    }
+
+    // Nine fields of 9,985 bytes and one of 9,988.
+    fn mark_fields(bytes: &mut [u8]) {
+        for k in 0..9u16 {
+            mark_field(bytes, 9_985 * u32::from(k), 9_985);
+        }
+        mark_field(bytes, 89_865, 9_988);
+    }
+
+    #[test]
+    fn longest_field() -> Result<(), Fail> {
+        let mut fields = [b'x'; 9_999];
+        mark_field(&mut fields, 0, 9_999);
+        let mut out = [b'-'; 10_038];
+        let extent = Extent {
+            tag: 500,
+            size: 9_999,
+        };
+        check_eq(write(CODES, &[extent], &fields, &mut out), Ok(10_037))?;
+        let front = *b"10037nz   2200037n  4500500999900000\x1e";
+        check(out[0..37] == front[0..37])?;
+        check(out[37..10_036] == fields[0..9_999])?;
+        check(out[10_036..10_038] == [0x1d, b'-'][0..2])?;
+        let wider = [b'x'; 10_000];
+        let extent = Extent {
+            tag: 500,
+            size: 10_000,
+        };
+        check_eq(
+            write(CODES, &[extent], &wider, &mut out),
+            refused(FrameFault::Entry { place: 24 }),
+        )
+    }
+
+    // 26 + 12 x 10 + 99,853 bytes.
+    #[test]
+    fn longest_record() -> Result<(), Fail> {
+        let mut extents = [Extent {
+            tag: 500,
+            size: 9_985,
+        }; 10];
+        extents[9].size = 9_988;
+        let mut fields = [b'x'; 99_853];
+        mark_fields(&mut fields);
+        let mut out = [b'-'; 99_999];
+        check_eq(write(CODES, &extents, &fields, &mut out), Ok(99_999))?;
+        check_eq(ibermarc21_frame_check(&out), 0)?;
+        let last = *b"500998889865\x1e";
+        check(out[132..145] == last[0..13])?;
+        extents[9].size = 9_989;
+        let longer = [b'x'; 99_854];
+        check_eq(
+            write(CODES, &extents, &longer, &mut out),
+            refused(FrameFault::Length),
+        )
     }
 }
