@@ -18,27 +18,58 @@ use std::io;
 
 const USAGE: &str = "usage: ibermarc21 check FILE... | show FILE... | copy FILE TO";
 
-// Runs a command on its files. Whether each was read to its end, or none where no such command is.
-fn run(rt: &LibcRuntime, command: &str, files: Args) -> io::Result<Option<bool>> {
-    match (command, files.len()) {
-        (_, 0) => Ok(None),
-        ("check", _) => check_files(rt, files),
-        ("show", _) => show_files(rt, files),
-        ("copy", 2) => copy_file(rt, files),
-        _ => Ok(None),
+#[derive(Clone, Copy)]
+enum Command {
+    Check,
+    Show,
+    Copy,
+}
+
+impl Command {
+    // The command that this word means, where it takes so many files.
+    fn of(word: &str, files: usize) -> Option<Command> {
+        match (word, files) {
+            (_, 0) => None,
+            ("check", _) => Some(Command::Check),
+            ("show", _) => Some(Command::Show),
+            ("copy", 2) => Some(Command::Copy),
+            _ => None,
+        }
+    }
+
+    // Runs the command. Whether each export was read to its end.
+    fn run(self, rt: &LibcRuntime, files: Args) -> io::Result<bool> {
+        match self {
+            Command::Check => check(rt, files),
+            Command::Show => visit_files(rt, files, &mut Showing),
+            Command::Copy => copy(rt, files),
+        }
+    }
+}
+
+fn check(rt: &LibcRuntime, files: Args) -> io::Result<bool> {
+    let mut checking = Checking::new();
+    let whole = visit_files(rt, files, &mut checking)?;
+    checking.report(rt)?;
+    Ok(whole)
+}
+
+fn copy(rt: &LibcRuntime, mut files: Args) -> io::Result<bool> {
+    match (files.next(), files.next()) {
+        (Some(from), Some(to)) => copy_export(rt, from.as_str(), to.as_str()),
+        _ => Ok(false),
     }
 }
 
 fn main(rt: LibcRuntime) -> Result<(), AnyError> {
     let mut args = env::args(&rt)?;
     let _ = args.next();
-    let done = match args.next() {
-        Some(command) => run(&rt, command.as_str(), args)?,
+    let command = match args.next() {
+        Some(word) => Command::of(word.as_str(), args.len()),
         None => None,
     };
-    match done {
-        Some(true) => Ok(()),
-        Some(false) => Err("an export was not read to its end".into()),
+    match command {
+        Some(command) => finish(&rt, command.run(&rt, args)),
         None => {
             eprintln!(rt, "{USAGE}")?;
             Err(USAGE.into())
@@ -46,20 +77,14 @@ fn main(rt: LibcRuntime) -> Result<(), AnyError> {
     }
 }
 
-fn check_files(rt: &LibcRuntime, files: Args) -> io::Result<Option<bool>> {
-    let mut checking = Checking::new();
-    let whole = visit_files(rt, files, &mut checking)?;
-    checking.report(rt)?;
-    Ok(Some(whole))
-}
-
-fn show_files(rt: &LibcRuntime, files: Args) -> io::Result<Option<bool>> {
-    Ok(Some(visit_files(rt, files, &mut Showing)?))
-}
-
-fn copy_file(rt: &LibcRuntime, mut files: Args) -> io::Result<Option<bool>> {
-    match (files.next(), files.next()) {
-        (Some(from), Some(to)) => Ok(Some(copy_export(rt, from.as_str(), to.as_str())?)),
-        _ => Ok(None),
+// How the program ends after a command.
+fn finish(rt: &LibcRuntime, done: io::Result<bool>) -> Result<(), AnyError> {
+    match done {
+        Ok(true) => Ok(()),
+        Ok(false) => Err("an export was not read to its end, or not copied".into()),
+        Err(error) => {
+            eprintln!(rt, "ibermarc21: {error}")?;
+            Err(error.into())
+        }
     }
 }

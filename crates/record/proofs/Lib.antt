@@ -13,13 +13,14 @@ pub mod Forth
 pub mod Extents
 pub mod Leaders
 pub mod Laid
+pub mod Judged
 pub mod Grammar
 pub mod Back
 pub mod Whole
-pub mod Handed
 pub mod Pieces
 pub mod Reopened
 pub mod Reread
 pub mod Trips
-pub mod Judged
+pub mod Handed
+pub mod Numbers
 pub mod Puts

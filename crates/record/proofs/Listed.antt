@@ -2,7 +2,7 @@
 use mathlib.Core.Path.{_≡_, refl, sym, ap, subst, _∙_}
 use mathlib.Core.Bool.{Bool, false}
 use mathlib.Core.List.{List, [], _∷_, _++_}
-use mathlib.Core.Logic.{_⊎_, inl, inr, ⊎-elim}
+use mathlib.Core.Logic.{inl, inr, ⊎-elim}
 use Prim.Native.Nat.{ℕ, _+_, _-_, _<_, _≤_}
 use native.Mathlib.Omega.{arith}
 use lib.ListN.{length}
@@ -18,7 +18,7 @@ use Rattle.record.specs.Contents.{byte-rule, faults-of, field-bytes, field-fau
 use Rattle.record.specs.Directory.{directory-end-faults, directory-end-rule, directory-faults, entry-faults, entry-place, entry-rule, entry-size, entry-tag}
 use Rattle.record.specs.Frame.{end-faults, end-rule, frame-faults, frame-of, size-faults, size-rule}
 use Rattle.record.specs.Leader.{entry-count, leader-faults, leader-rule}
-use Rattle.record.specs.Rules.{over, rule, verdict}
+use Rattle.record.specs.Rules.{over, verdict}
 use Rattle.record.specs.Values.{values-of}
 use Rattle.record.proofs.Ordered.{In, Rising, alike, in-append, in-left, in-over, in-right, in-rule, in-rules, least, over-in, rising-append, rising-over, rising-rule, rising-rules, rule-in, rules-in}
 use Rattle.record.proofs.Sound.{sizes-mono, sizes-next}

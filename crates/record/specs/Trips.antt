@@ -1,6 +1,6 @@
 -- Reading and writing undo one another, and each element stands where its place says. Assumes nothing.
 use mathlib.Core.Path.{_≡_}
-use mathlib.Core.List.{List, [], _∷_, map}
+use mathlib.Core.List.{List, _∷_, map}
 use Prim.Native.Nat.{ℕ, _+_, _-_}
 use lib.ListN.{length}
 use Rattle.std.specs.shelf.Lists.{All}

@@ -1,7 +1,8 @@
 -- What a call of write answers, and what its buffer then holds. Assumes nothing.
+use mathlib.Core.Bool.{Bool, _||_}
 use mathlib.Core.List.{List, _++_, map}
 use Prim.Native.Nat.{ℕ, _+_}
-use lib.Dec.{leb}
+use lib.Dec.{eqb, leb}
 use lib.ListN.{length, take, drop}
 use Rattle.std.specs.declared.result.Result.{Result}
 use Rattle.std.specs.declared.result.Result.the-variants.{Ok, Err}
@@ -9,6 +10,7 @@ use Rattle.record.specs.declared.faults.Layer.the-variants.{Job}
 use Rattle.record.specs.declared.faults.Values.{Values}
 use Rattle.record.specs.declared.writing.WriteFault.{WriteFault}
 use Rattle.record.specs.declared.writing.WriteFault.the-variants.{Frame, ShortBuffer}
+use Rattle.record.specs.Classes.{within}
 use Rattle.record.specs.Frame.{frame-faults}
 use Rattle.record.specs.Rules.{rule}
 use Rattle.record.specs.Values.{values-of}
@@ -21,6 +23,10 @@ write-values ShortBuffer = record { number = 29; layer = Job; place = 0; tag = 0
 -- the faults of writing a record into a buffer: those of its frame, and then 29
 abbrev pub write-faults : List ℕ → List ℕ → List WriteFault
 write-faults bs old = map Frame (frame-faults bs) ++ rule (leb (length bs) (length old)) ShortBuffer
+
+-- the numbers that write may tell
+abbrev pub write-number : ℕ → Bool
+write-number n = within 18 21 n || eqb n 29
 
 -- bytes in place of those that stood from p on
 abbrev pub put : List ℕ → ℕ → List ℕ → List ℕ

@@ -1,12 +1,13 @@
 // Writing a record from its parts.
+ghost use mathlib.Core.Bool.{true};
 ghost use mathlib.Core.Path.{_≡_};
 ghost use lib.ListN.{length, take};
-ghost use Rattle.std.specs.Vec.{made};
+ghost use Rattle.std.specs.Vec.{made, refused};
 ghost use Rattle.record.specs.Layout.{laid};
 ghost use Rattle.record.specs.Rules.{verdict};
 ghost use Rattle.record.specs.Trips.{Read-back};
 ghost use Rattle.record.specs.declared.writing.WriteFault.the-variants.{Frame};
-ghost use Rattle.record.specs.Writing.{left-by, write-faults, write-values};
+ghost use Rattle.record.specs.Writing.{left-by, write-faults, write-number, write-values};
 use crate::extent::Extent;
 use crate::faults::FrameFault;
 use crate::faults::FrameFaultDebug;
@@ -62,6 +63,7 @@ pub fn write(
 ) -> Result<usize, WriteFault>
     ensures answer { λ r. ⌜ r ≡ verdict (write-faults (laid (now (codes .entry)) (now (extents .entry)) (now (fields .entry))) (now (out .entry))) (length (laid (now (codes .entry)) (now (extents .entry)) (now (fields .entry)))) ⌝ }
     ensures buffer { λ r. ⌜ now (out .exit) ≡ left-by r (laid (now (codes .entry)) (now (extents .entry)) (now (fields .entry))) (now (out .entry)) ⌝ }
+    ensures numbers { λ r. ⌜ refused r (λ f. write-number (write-values f .number) ≡ true) ⌝ }
     ensures read_back { λ r. ⌜ made r (λ n. Read-back (now (codes .entry)) (now (extents .entry)) (now (fields .entry)) (take n (now (out .exit)))) ⌝ }
 {
     let len = check_parts(codes, extents, fields)?;

@@ -9,7 +9,7 @@ use lib.Dec.{leb}
 use lib.ListN.{length, drop, take}
 use Rattle.std.specs.declared.result.Result.{Result}
 use Rattle.std.specs.declared.result.Result.the-variants.{Ok, Err}
-use Rattle.std.specs.Vec.{made}
+use Rattle.std.specs.Vec.{made, refused}
 use Rattle.std.proofs.shelf.Lists.{take-at}
 use Rattle.std.proofs.shelf.Tests.{le-leb, lt-leb}
 use Rattle.record.specs.declared.extent.Extent.{Extent}
@@ -21,9 +21,10 @@ use Rattle.record.specs.Layout.{laid, laid-length}
 use Rattle.record.specs.PartsFaults.{parts-faults}
 use Rattle.record.specs.Rules.{rule, verdict}
 use Rattle.record.specs.Trips.{Read-back}
-use Rattle.record.specs.Writing.{left-by, write-faults}
+use Rattle.record.specs.Writing.{left-by, write-faults, write-number, write-values}
 use Rattle.record.proofs.Judged.{framed-when, judged, right-when}
 use Rattle.record.proofs.Laid.{length-laid, rule-laid}
+use Rattle.record.proofs.Numbers.{told-parts}
 use Rattle.record.proofs.Trips.{read-back}
 use Rattle.record.proofs.Verdicts.{none, returned, value}
 use Rattle.record.proofs.writing.write.Needs as need
@@ -34,8 +35,8 @@ carried : (fs : List FrameFault) (rest : List WriteFault) (x y : ℕ) (f : Frame
 carried [] rest x y f e = let z : _≡_ {A = ℕ} 0 1 = cc in absurd (omega arith)
 carried (g ∷ fs) rest x y f e = let same : f ≡ g = cc in ap (λ h. Err (Frame h)) same
 
-refused : (codes : List ℕ) (es : List Extent) (fs old : List ℕ) → length codes ≡ 8 → (f : FrameFault) → Err f ≡ verdict (parts-faults codes es fs) (laid-length es fs) → Err (Frame f) ≡ verdict (write-faults (laid codes es fs) old) (length (laid codes es fs))
-refused codes es fs old eight f e = carried (frame-faults (laid codes es fs)) _ _ _ f (e ∙ sym (judged codes es fs eight (laid-length es fs)))
+first-fault : (codes : List ℕ) (es : List Extent) (fs old : List ℕ) → length codes ≡ 8 → (f : FrameFault) → Err f ≡ verdict (parts-faults codes es fs) (laid-length es fs) → Err (Frame f) ≡ verdict (write-faults (laid codes es fs) old) (length (laid codes es fs))
+first-fault codes es fs old eight f e = carried (frame-faults (laid codes es fs)) _ _ _ f (e ∙ sym (judged codes es fs eight (laid-length es fs)))
 
 -- where the frame holds, only the buffer may be short
 roomy : (bs old : List ℕ) → Framed bs → (t : Bool) → leb (length bs) (length old) ≡ t → verdict (rule t ShortBuffer) (length bs) ≡ verdict (write-faults bs old) (length bs)
@@ -58,8 +59,9 @@ returns-in-Break-len c =
     let is = returned _ _ (c .from-residual .ensures .1) in
     let Back : Result ℕ WriteFault → Type 0 = λ r. made r (λ n. Read-back codes es fs (take n old)) in
     record {
-      answer = is ∙ refused codes es fs old (omega arith) _ (c .in-Break-len .ensures tt);
+      answer = is ∙ first-fault codes es fs old (omega arith) _ (c .in-Break-len .ensures tt);
       buffer = sym (ap (λ r. left-by r bs old) is);
+      numbers = subst (λ r. refused r (λ f. write-number (write-values f .number) ≡ true)) (sym is) (told-parts codes es fs (laid-length es fs) _ (c .in-Break-len .ensures tt));
       read-back = subst Back (sym is) tt;
     }
 
@@ -67,7 +69,7 @@ pub returns-then-out-len : need.returns-then-out-len
 returns-then-out-len c =
     let d = need.at·returns-then-out-len c .In-Continue-len in
     let l = long d in
-    record { answer = roomy _ (c .args .out .now) (framed d) false (lt-leb _ _ (omega arith)); buffer = refl; read-back = tt }
+    record { answer = roomy _ (c .args .out .now) (framed d) false (lt-leb _ _ (omega arith)); buffer = refl; numbers = refl; read-back = tt }
 
 pub put-record-requires : need.put-record-requires
 put-record-requires c κs =
@@ -92,5 +94,6 @@ returns c =
     record {
       answer = ap Ok l ∙ roomy bs old (framed d) true (le-leb _ _ (omega arith));
       buffer = whole;
+      numbers = tt;
       read-back = subst (Read-back codes es fs) (sym written) (read-back codes es fs (right-when codes es fs (omega arith) (framed d)) (framed d));
     }
