@@ -11,10 +11,10 @@ pub mod Told
 pub mod Parts
 pub mod Layout
 pub mod Formed
-pub mod Examples
 pub mod Reading
 pub mod Cursors
 pub mod Extents
 pub mod PartsFaults
 pub mod Writing
 pub mod Trips
+pub mod Examples
