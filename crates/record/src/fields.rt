@@ -9,10 +9,9 @@ use crate::figures::number_at;
 use crate::slices::byte_at;
 use crate::slices::part_of;
 use crate::subfields::Subfields;
-use crate::subfields::SubfieldsDebug;
 
 // What a field holds: a control field's bytes, or two indicators and subfields. The 1E that ends it is left out.
-#[derive(Clone, Copy, Debug)]
+#[derive(Clone, Copy)]
 pub enum Content<'a> {
     Control(&'a [u8]),
     Data {
@@ -23,7 +22,7 @@ pub enum Content<'a> {
 }
 
 // A field with its tag, the place of its directory entry, its own place and its length, both in bytes of the record.
-#[derive(Clone, Copy, Debug)]
+#[derive(Clone, Copy)]
 pub struct Field<'a> {
     pub tag: u16,
     pub entry: usize,
@@ -33,7 +32,7 @@ pub struct Field<'a> {
 }
 
 // The fields of a record that are still to come.
-#[derive(Clone, Copy, Debug)]
+#[derive(Clone, Copy)]
 pub struct Fields<'a> {
     bytes: &'a [u8],
     next: u16,

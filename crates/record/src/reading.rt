@@ -15,13 +15,12 @@ use crate::faults::FrameFault;
 use crate::fields::Fields;
 use crate::figures::number_at;
 use crate::frame::Frame;
-use crate::frame::FrameDebug;
 use crate::frame::check;
 use crate::slices::byte_at;
 use crate::slices::part_of;
 
 // A record whose frame was checked, over the caller's bytes.
-#[derive(Clone, Copy, Debug)]
+#[derive(Clone, Copy)]
 pub struct Record<'a> {
     bytes: &'a [u8],
     frame: Frame,

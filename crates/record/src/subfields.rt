@@ -11,7 +11,7 @@ use crate::slices::part_of;
 const SUBFIELD_MARK: u8 = 0x1f;
 
 // A subfield: its code, its data, and the place of its 1F in the record.
-#[derive(Clone, Copy, Debug)]
+#[derive(Clone, Copy)]
 pub struct Subfield<'a> {
     pub place: usize,
     pub code: u8,
@@ -19,7 +19,7 @@ pub struct Subfield<'a> {
 }
 
 // The subfields that begin at this place or after it, up to the end of these bytes.
-#[derive(Clone, Copy, Debug)]
+#[derive(Clone, Copy)]
 pub struct Subfields<'a> {
     bytes: &'a [u8],
     place: usize,
