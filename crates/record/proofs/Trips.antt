@@ -19,7 +19,7 @@ use Rattle.record.specs.Leader.{codes-of, entry-count}
 use Rattle.record.specs.Parts.{Field, Parts, tag-of}
 use Rattle.record.specs.Parts.Field.{Control}
 use Rattle.record.specs.Reading.{bare, contents-of, extents-of, field-read, fields-from, fields-of, held, parts-of, told-place, without-places}
-use Rattle.record.specs.Trips.{Read-back, Reads, Stands, Subfields-stand}
+use Rattle.record.specs.Trips.{Of-parts, Read-back, Reads, Stands, Subfields-stand}
 use Rattle.record.proofs.Back.{field, field-part, right}
 use Rattle.record.proofs.Forth.{framed-laid}
 use Rattle.record.proofs.Laid.{Right, count-laid, tag-laid}
@@ -87,13 +87,17 @@ module _ (r : Parts) (ok : Formed r) where
   laid-again : laid (codes-of (layout r)) (extents-of (layout r)) (contents-of (layout r)) ≡ layout r
   laid-again i = laid (codes-back (r .codes) es fs laid-right i) (extents-back (r .codes) es fs laid-right i) (contents-back (r .codes) es fs laid-right i)
 
+-- codes, extents and bytes of parts are laid out as those parts are
+pub laid-parts : (p : Parts) (codes : List ℕ) (es : List Extent) (fs : List ℕ) → Of-parts p codes es fs → laid codes es fs ≡ layout p
+laid-parts p codes es fs of = λ i. laid (of .codes-are i) (of .extents-are i) (of .contents-are i)
+
 pub read-back : (codes : List ℕ) (es : List Extent) (fs : List ℕ) → Right codes es fs → Framed (laid codes es fs) → Read-back codes es fs (laid codes es fs)
 read-back codes es fs ok framed = record {
   framed = framed;
   codes-are = codes-back codes es fs ok;
   extents-are = extents-back codes es fs ok;
   contents-are = contents-back codes es fs ok;
-  parts-are = λ p formed a b c. sym (λ i. parts-of (laid (a i) (b i) (c i))) ∙ parts-back p formed;
+  parts-are = λ p formed of. ap parts-of (laid-parts p codes es fs of) ∙ parts-back p formed;
 }
 
 pub stands : (bs : List ℕ) → Framed bs → All (Stands bs) (fields-of bs)

@@ -43,10 +43,16 @@ pub record Reads (bs : List ℕ) (r : Record) : Type 0 where
   pub written-back : laid (codes-of bs) (extents-of bs) (contents-of bs) ≡ bs
   pub stand : All (Stands bs) (fields-of bs)
 
+-- codes, extents and bytes that are those of parts
+pub record Of-parts (p : Parts) (codes : List ℕ) (es : List Extent) (fs : List ℕ) : Type 0 where
+  pub codes-are : codes ≡ p .codes
+  pub extents-are : es ≡ map extent (p .fields)
+  pub contents-are : fs ≡ fields-laid (p .fields)
+
 -- what is read from a record that was written from codes, extents and bytes
 pub record Read-back (codes : List ℕ) (es : List Extent) (fs bs : List ℕ) : Type 0 where
   pub framed : Framed bs
   pub codes-are : codes-of bs ≡ codes
   pub extents-are : extents-of bs ≡ es
   pub contents-are : contents-of bs ≡ fs
-  pub parts-are : (p : Parts) → Formed p → p .codes ≡ codes → map extent (p .fields) ≡ es → fields-laid (p .fields) ≡ fs → parts-of bs ≡ p
+  pub parts-are : (p : Parts) → Formed p → Of-parts p codes es fs → parts-of bs ≡ p

@@ -12,7 +12,7 @@ use Rattle.record.specs.declared.writing.WriteFault.{WriteFault}
 use Rattle.record.specs.declared.writing.WriteFault.the-variants.{Frame, ShortBuffer}
 use Rattle.record.specs.Classes.{within}
 use Rattle.record.specs.Frame.{frame-faults}
-use Rattle.record.specs.Rules.{rule}
+use Rattle.record.specs.Rules.{rule, verdict}
 use Rattle.record.specs.Values.{values-of}
 
 -- a fault of the frame has the frame's values, a short buffer only its number
@@ -23,6 +23,10 @@ write-values ShortBuffer = record { number = 29; layer = Job; place = 0; tag = 0
 -- the faults of writing a record into a buffer: those of its frame, and then 29
 abbrev pub write-faults : List ℕ → List ℕ → List WriteFault
 write-faults bs old = map Frame (frame-faults bs) ++ rule (leb (length bs) (length old)) ShortBuffer
+
+-- what is answered of a record whose frame holds: only the buffer may be too short
+abbrev pub room-for : List ℕ → List ℕ → Result ℕ WriteFault
+room-for bs old = verdict (rule (leb (length bs) (length old)) ShortBuffer) (length bs)
 
 -- the numbers that write may tell
 abbrev pub write-number : ℕ → Bool

@@ -3,11 +3,13 @@ ghost use mathlib.Core.Bool.{true};
 ghost use mathlib.Core.Path.{_≡_};
 ghost use lib.ListN.{length, take};
 ghost use Rattle.std.specs.Vec.{made, refused};
-ghost use Rattle.record.specs.Layout.{laid};
+ghost use Rattle.record.specs.Formed.{Formed};
+ghost use Rattle.record.specs.Layout.{laid, layout};
+ghost use Rattle.record.specs.Parts.{Parts};
 ghost use Rattle.record.specs.Rules.{verdict};
-ghost use Rattle.record.specs.Trips.{Read-back};
+ghost use Rattle.record.specs.Trips.{Of-parts, Read-back};
 ghost use Rattle.record.specs.declared.writing.WriteFault.the-variants.{Frame};
-ghost use Rattle.record.specs.Writing.{left-by, write-faults, write-number, write-values};
+ghost use Rattle.record.specs.Writing.{left-by, room-for, write-faults, write-number, write-values};
 use crate::extent::Extent;
 use crate::faults::FrameFault;
 use crate::faults::FrameFaultDebug;
@@ -64,6 +66,7 @@ pub fn write(
     ensures answer { λ r. ⌜ r ≡ verdict (write-faults (laid (now (codes .entry)) (now (extents .entry)) (now (fields .entry))) (now (out .entry))) (length (laid (now (codes .entry)) (now (extents .entry)) (now (fields .entry)))) ⌝ }
     ensures buffer { λ r. ⌜ now (out .exit) ≡ left-by r (laid (now (codes .entry)) (now (extents .entry)) (now (fields .entry))) (now (out .entry)) ⌝ }
     ensures numbers { λ r. ⌜ refused r (λ f. write-number (write-values f .number) ≡ true) ⌝ }
+    ensures formed { λ r. ⌜ ((p : Parts) → Formed p → Of-parts p (now (codes .entry)) (now (extents .entry)) (now (fields .entry)) → r ≡ room-for (layout p) (now (out .entry))) ⌝ }
     ensures read_back { λ r. ⌜ made r (λ n. Read-back (now (codes .entry)) (now (extents .entry)) (now (fields .entry)) (take n (now (out .exit)))) ⌝ }
 {
     let len = check_parts(codes, extents, fields)?;
