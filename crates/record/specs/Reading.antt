@@ -35,7 +35,7 @@ pub data Held : Type 0 where
   bytes : List ℕ → Held
   coded : ℕ → ℕ → List Placed-subfield → Held
 
--- a field with this tag, which begins at p, without the 1E that ends it
+-- what a field with this tag holds that begins at p, without the 1E that ends it
 abbrev pub held : ℕ → ℕ → List ℕ → Held
 held tag p bs =
     cond (ltb tag 10) (bytes (take (length bs - 1) bs))
