@@ -13,7 +13,7 @@ use std::alloc::Global;
 use std::io;
 use std::io::Write;
 
-// The records that were shown.
+// Prints each record; there is nothing to keep between them.
 #[derive(Clone, Copy)]
 pub(crate) struct Showing;
 

@@ -1,8 +1,8 @@
 // The parts of a record, written into a buffer that has room for them.
+ghost use mathlib.Core.Bool.{true};
 ghost use mathlib.Core.List.{[], _∷_};
 ghost use mathlib.Core.Path.{_≡_};
 ghost use Prim.Native.Nat.{ℕ, _+_, _*_, _^_, _<_, _≤_};
-ghost use mathlib.Core.Bool.{true};
 ghost use lib.ListN.{length};
 ghost use Rattle.record.specs.Extents.{extent-of, starts};
 ghost use Rattle.record.specs.Layout.{digits, directory, entry, figure, laid, laid-length, leader};
