@@ -6,7 +6,7 @@ use Rattle.exports.proofs.Listing.{all_listed, one_more}
 use Rattle.exports.proofs.copy.extents_of.Goals as goal
 
 pub loop-field-preserved : goal.loop-field-preserved
-loop-field-preserved c = one_more _ _ _ c.loop-field.invariant _ _ _ _ c.in-Some.ensures.steps c.extent.ensures c.in-ok-push.ensures.items
+loop-field-preserved c = one_more _ _ _ c.loop-field.invariant _ _ _ _ c.in-Some.ensures.steps c.extent.ensures c.in_ok-push.ensures.items
 
 pub returns : goal.returns
 returns c =

@@ -8,11 +8,11 @@ pub loop-subfield-init : goal.loop-subfield-init
 loop-subfield-init g c = begins _ _
 
 pub loop-subfield-preserved : goal.loop-subfield-preserved
-loop-subfield-preserved g c = goes_on c.loop-subfield.invariant c.in-Some.ensures.steps (held _ c.if-not-has-subfield.ensures)
+loop-subfield-preserved g c = goes_on c.loop-subfield.invariant c.in-Some.ensures.steps (held _ c.if-not-has_subfield.ensures)
 
-pub returns-then-not-has-subfield : goal.returns-then-not-has-subfield
-returns-then-not-has-subfield g c =
-    stops (moved c.loop-subfield.invariant (ap subfields_left c.into-iter-subfield-iterator.ensures.into-iter-gives)) c.in-Some.ensures.steps (broken c.if-not-has-subfield.ensures)
+pub returns-then-not-has_subfield : goal.returns-then-not-has_subfield
+returns-then-not-has_subfield g c =
+    stops (moved c.loop-subfield.invariant (ap subfields_left c.into-iter-subfield-iterator.ensures.into-iter-gives)) c.in-Some.ensures.steps (broken c.if-not-has_subfield.ensures)
 
 pub returns : goal.returns
 returns g c =

@@ -9,18 +9,18 @@ use Rattle.formats.proofs.admitting.check_indicators.Goals as goal
 pub loop-field-init : goal.loop-field-init
 loop-field-init g c = (begins _ _, subst (λ s. All (λ f. f.place < 100000) (fields_left s)) (sym c.into-iter-field-iterator.ensures.into-iter-gives) c.requires)
 
-pub check-both-requires : goal.check-both-requires
-check-both-requires g c = (subst (All (λ f. f.place < 100000)) c.in-Some.ensures.steps c.loop-field.invariant.1).0
+pub check_both-requires : goal.check_both-requires
+check_both-requires g c = (subst (All (λ f. f.place < 100000)) c.in-Some.ensures.steps c.loop-field.invariant.1).0
 
 pub loop-field-preserved : goal.loop-field-preserved
 loop-field-preserved g c = (
-  passes c.loop-field.invariant.0 c.in-Some.ensures.steps c.in-ok-check-both.ensures,
+  passes c.loop-field.invariant.0 c.in-Some.ensures.steps c.in_ok-check_both.ensures,
   (subst (All (λ f. f.place < 100000)) c.in-Some.ensures.steps c.loop-field.invariant.1).1,
 )
 
-pub returns-in-err-check-both : goal.returns-in-err-check-both
-returns-in-err-check-both g c =
-    returned _ _ c.from-residual.ensures.1 ∙ stops (moved c.loop-field.invariant.0 (ap fields_left c.into-iter-field-iterator.ensures.into-iter-gives)) c.in-Some.ensures.steps c.in-err-check-both.ensures
+pub returns-in_err-check_both : goal.returns-in_err-check_both
+returns-in_err-check_both g c =
+    returned _ _ c.from-residual.ensures.1 ∙ stops (moved c.loop-field.invariant.0 (ap fields_left c.into-iter-field-iterator.ensures.into-iter-gives)) c.in-Some.ensures.steps c.in_err-check_both.ensures
 
 pub returns : goal.returns
 returns g c =

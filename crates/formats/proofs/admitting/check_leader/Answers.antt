@@ -22,10 +22,10 @@ module _ (M : Table) (codes ps : List ℕ) (i : ℕ) (are : ps ≡ code_position
       ∙ sym (ap (λ l. verdict l (tt {0})) left ∙ broken (λ k. M.leader (get_or code_positions k 0) (get_or codes k 0)) (λ k. LeaderCode (get_or code_positions k 0) (get_or codes k 0)) i 8 within (tt {0}) (e ∙ same))
 
 pub loop-i-preserved : goal.loop-i-preserved
-loop-i-preserved g c = on (g.F.Format.meaning c.args.format.now) c.args.codes.now _ _ c.positions.ensures c.loop-i-test.true c.loop-i.invariant c.if-not-admits-code.ensures
+loop-i-preserved g c = on (g.F.Format.meaning c.args.format.now) c.args.codes.now _ _ c.positions.ensures c.loop-i-test.true c.loop-i.invariant c.if-not-admits_code.ensures
 
-pub returns-then-not-admits-code : goal.returns-then-not-admits-code
-returns-then-not-admits-code g c = stop (g.F.Format.meaning c.args.format.now) c.args.codes.now _ _ c.positions.ensures c.loop-i-test.true c.loop-i.invariant c.if-not-admits-code.ensures
+pub returns-then-not-admits_code : goal.returns-then-not-admits_code
+returns-then-not-admits_code g c = stop (g.F.Format.meaning c.args.format.now) c.args.codes.now _ _ c.positions.ensures c.loop-i-test.true c.loop-i.invariant c.if-not-admits_code.ensures
 
 pub returns : goal.returns
 returns g c =

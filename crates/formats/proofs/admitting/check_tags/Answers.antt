@@ -8,11 +8,11 @@ pub loop-field-init : goal.loop-field-init
 loop-field-init g c = begins _ _
 
 pub loop-field-preserved : goal.loop-field-preserved
-loop-field-preserved g c = goes_on c.loop-field.invariant c.in-Some.ensures.steps (held _ c.if-not-has-tag.ensures)
+loop-field-preserved g c = goes_on c.loop-field.invariant c.in-Some.ensures.steps (held _ c.if-not-has_tag.ensures)
 
-pub returns-then-not-has-tag : goal.returns-then-not-has-tag
-returns-then-not-has-tag g c =
-    stops (moved c.loop-field.invariant (ap fields_left c.into-iter-field-iterator.ensures.into-iter-gives)) c.in-Some.ensures.steps (broken c.if-not-has-tag.ensures)
+pub returns-then-not-has_tag : goal.returns-then-not-has_tag
+returns-then-not-has_tag g c =
+    stops (moved c.loop-field.invariant (ap fields_left c.into-iter-field-iterator.ensures.into-iter-gives)) c.in-Some.ensures.steps (broken c.if-not-has_tag.ensures)
 
 pub returns : goal.returns
 returns g c =

@@ -1,13 +1,13 @@
 use Rattle.formats.proofs.checking.check.Goals as goal
 
-pub returns-in-err-parts : goal.returns-in-err-parts
-returns-in-err-parts g c = ?
+pub returns-in_err-parts : goal.returns-in_err-parts
+returns-in_err-parts g c = ?
 
-pub check-parts-requires : goal.check-parts-requires
-check-parts-requires g c = ?
+pub check_parts-requires : goal.check_parts-requires
+check_parts-requires g c = ?
 
-pub returns-in-err-check-parts : goal.returns-in-err-check-parts
-returns-in-err-check-parts g c = ?
+pub returns-in_err-check_parts : goal.returns-in_err-check_parts
+returns-in_err-check_parts g c = ?
 
 pub returns : goal.returns
 returns g c = ?

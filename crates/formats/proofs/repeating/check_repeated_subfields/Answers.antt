@@ -9,12 +9,12 @@ pub loop-field-init : goal.loop-field-init
 loop-field-init g c = begins _ _
 
 pub loop-field-preserved : goal.loop-field-preserved
-loop-field-preserved g c = passes c.loop-field.invariant c.in-Some.ensures.steps c.in-ok-check-repeated-held.ensures
+loop-field-preserved g c = passes c.loop-field.invariant c.in-Some.ensures.steps c.in_ok-check_repeated_held.ensures
 
-pub returns-in-err-check-repeated-held : goal.returns-in-err-check-repeated-held
-returns-in-err-check-repeated-held g c =
+pub returns-in_err-check_repeated_held : goal.returns-in_err-check_repeated_held
+returns-in_err-check_repeated_held g c =
     returned _ _ c.from-residual.ensures.1
-    ∙ stops (moved c.loop-field.invariant (ap fields_left c.into-iter-field-iterator.ensures.into-iter-gives)) c.in-Some.ensures.steps c.in-err-check-repeated-held.ensures
+    ∙ stops (moved c.loop-field.invariant (ap fields_left c.into-iter-field-iterator.ensures.into-iter-gives)) c.in-Some.ensures.steps c.in_err-check_repeated_held.ensures
 
 pub returns : goal.returns
 returns g c = ends (moved c.loop-field.invariant (ap fields_left c.into-iter-field-iterator.ensures.into-iter-gives)) c.in-None.ensures.steps.0

@@ -12,11 +12,11 @@ loop-i-init c = refl
 
 pub loop-i-preserved : goal.loop-i-preserved
 loop-i-preserved c =
-    c.loop-i.invariant ∙ kept (byte_rule c.args.tag c.args.field.now) (λ i. Field (c.args.place + i)) _ _ c.loop-i-test.true c.if-not-byte-holds.ensures
+    c.loop-i.invariant ∙ kept (byte_rule c.args.tag c.args.field.now) (λ i. Field (c.args.place + i)) _ _ c.loop-i-test.true c.if-not-byte_holds.ensures
 
-pub returns-then-not-byte-holds : goal.returns-then-not-byte-holds
-returns-then-not-byte-holds c =
-    sym (ap (λ l. verdict l tt) c.loop-i.invariant ∙ broken (byte_rule c.args.tag c.args.field.now) (λ i. Field (c.args.place + i)) _ _ c.loop-i-test.true tt c.if-not-byte-holds.ensures)
+pub returns-then-not-byte_holds : goal.returns-then-not-byte_holds
+returns-then-not-byte_holds c =
+    sym (ap (λ l. verdict l tt) c.loop-i.invariant ∙ broken (byte_rule c.args.tag c.args.field.now) (λ i. Field (c.args.place + i)) _ _ c.loop-i-test.true tt c.if-not-byte_holds.ensures)
 
 pub returns : goal.returns
 returns c = sym (ap (λ l. verdict l tt) (c.loop-i.invariant ∙ ended _ _ _ c.loop-i-test.false))

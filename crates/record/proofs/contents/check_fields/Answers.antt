@@ -11,18 +11,18 @@ pub loop-k-init : goal.loop-k-init
 unfolding fields_faults
 loop-k-init c = (ap (over (faults_of c.args.bytes.now) 0) (sym c.requires.0.0), omega (arith, sizes_none c.args.bytes.now))
 
-pub check-next-requires : goal.check-next-requires
-check-next-requires c =
+pub check_next-requires : goal.check_next-requires
+check_next-requires c =
     let bs = c.args.bytes.now in
     let k = c.loop-k.k in
     let more = sizes_mono bs (k + 1) c.args.entries (omega arith) in
     let step = sizes_next bs k in
     ((omega arith, omega arith), (c.loop-k.invariant.1, omega arith))
 
-pub returns-in-err-place : goal.returns-in-err-place
-returns-in-err-place c =
+pub returns-in_err-place : goal.returns-in_err-place
+returns-in_err-place c =
     returned _ _ c.from-residual.ensures.1
-    ∙ found (faults_of c.args.bytes.now) c.loop-k.k c.args.entries c.loop-k-test.true _ tt _ c.in-err-place.ensures
+    ∙ found (faults_of c.args.bytes.now) c.loop-k.k c.args.entries c.loop-k-test.true _ tt _ c.in_err-place.ensures
     ∙ ap (λ l. verdict l tt) (sym c.loop-k.invariant.0)
 
 pub loop-k-preserved : goal.loop-k-preserved
@@ -30,8 +30,8 @@ loop-k-preserved c =
     let bs = c.args.bytes.now in
     let k = c.loop-k.k in
     let step = sizes_next bs k in
-    let went = value (faults_of bs k) _ _ c.in-ok-place.ensures in (
-      c.loop-k.invariant.0 ∙ passed (faults_of bs) k c.args.entries c.loop-k-test.true (none _ _ _ c.in-ok-place.ensures),
+    let went = value (faults_of bs k) _ _ c.in_ok-place.ensures in (
+      c.loop-k.invariant.0 ∙ passed (faults_of bs) k c.args.entries c.loop-k-test.true (none _ _ _ c.in_ok-place.ensures),
       omega (arith, went, c.loop-k.invariant.1),
     )
 

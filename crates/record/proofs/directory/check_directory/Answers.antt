@@ -15,14 +15,14 @@ module _ (bs : List ℕ) (n : ℕ) (count : n ≡ entry_count bs) where
   last : {X : Type 0} (x : X) (t : Bool) → over (entry_faults bs) 0 n ≡ [] → t ≡ directory_end_rule bs → verdict (rule t (DirectoryEnd (entry_place n))) x ≡ verdict (directory_faults bs) x
   last x t e h = ap (λ l. verdict l x) (ap (λ u. rule u (DirectoryEnd (entry_place n))) h ∙ sym (whole ∙ skip _ e))
 
-pub returns-in-err-sum : goal.returns-in-err-sum
-returns-in-err-sum c =
-    returned _ _ c.from-residual.ensures.1 ∙ first _ _ _ tt _ c.in-err-sum.ensures ∙ ap (λ l. verdict l tt) (sym (whole c.args.bytes.now c.args.entries c.requires.0.0))
+pub returns-in_err-sum : goal.returns-in_err-sum
+returns-in_err-sum c =
+    returned _ _ c.from-residual.ensures.1 ∙ first _ _ _ tt _ c.in_err-sum.ensures ∙ ap (λ l. verdict l tt) (sym (whole c.args.bytes.now c.args.entries c.requires.0.0))
 
-pub returns-then-not-end-holds : goal.returns-then-not-end-holds
-returns-then-not-end-holds c =
-    last c.args.bytes.now c.args.entries c.requires.0.0 tt _ (none _ _ _ c.in-ok-sum.ensures) c.if-not-end-holds.ensures
+pub returns-then-not-end_holds : goal.returns-then-not-end_holds
+returns-then-not-end_holds c =
+    last c.args.bytes.now c.args.entries c.requires.0.0 tt _ (none _ _ _ c.in_ok-sum.ensures) c.if-not-end_holds.ensures
 
 pub returns : goal.returns
 returns c =
-    last c.args.bytes.now c.args.entries c.requires.0.0 tt _ (none _ _ _ c.in-ok-sum.ensures) c.if-not-end-holds.ensures
+    last c.args.bytes.now c.args.entries c.requires.0.0 tt _ (none _ _ _ c.in_ok-sum.ensures) c.if-not-end_holds.ensures

@@ -15,17 +15,17 @@ loop-k-preserved c =
     let bs = c.args.bytes.now in
     let k = c.loop-k.k in
     let inv = c.loop-k.invariant in (
-      inv.0 ∙ kept (entry_rule bs) (λ j. Entry (entry_place j)) k _ c.loop-k-test.true (c.if-not-entry-holds.ensures ∙ ap (starts_at bs k) inv.1),
-      ap (λ n. n + c.number-at-before.result) inv.1 ∙ ap (λ n. sizes_before bs k + n) c.number-at-before.ensures.value ∙ sym (sizes_next bs k),
-      omega (arith, inv.2, c.number-at-before.ensures.small),
+      inv.0 ∙ kept (entry_rule bs) (λ j. Entry (entry_place j)) k _ c.loop-k-test.true (c.if-not-entry_holds.ensures ∙ ap (starts_at bs k) inv.1),
+      ap (λ n. n + c.number_at-before.result) inv.1 ∙ ap (λ n. sizes_before bs k + n) c.number_at-before.ensures.value ∙ sym (sizes_next bs k),
+      omega (arith, inv.2, c.number_at-before.ensures.small),
     )
 
-pub returns-then-not-entry-holds : goal.returns-then-not-entry-holds
-returns-then-not-entry-holds c =
+pub returns-then-not-entry_holds : goal.returns-then-not-entry_holds
+returns-then-not-entry_holds c =
     let bs = c.args.bytes.now in
     let k = c.loop-k.k in
     let inv = c.loop-k.invariant in
-    sym (ap (λ l. verdict l (sizes_before bs c.args.entries)) inv.0 ∙ broken (entry_rule bs) (λ j. Entry (entry_place j)) k _ c.loop-k-test.true _ (c.if-not-entry-holds.ensures ∙ ap (starts_at bs k) inv.1))
+    sym (ap (λ l. verdict l (sizes_before bs c.args.entries)) inv.0 ∙ broken (entry_rule bs) (λ j. Entry (entry_place j)) k _ c.loop-k-test.true _ (c.if-not-entry_holds.ensures ∙ ap (starts_at bs k) inv.1))
 
 pub returns : goal.returns
 returns c =

@@ -12,11 +12,11 @@ returns-else-tag-lt10 c =
     let bs = c.args.bytes.now in
     let p = c.args.place in
     let field = part bs p c.args.size in
-    let same = c.part-of-field.ensures.value in
-    let end : c.saturating-sub-end.result ≡ length field - 1 = c.saturating-sub-end.ensures ∙ ap (λ l. length l - 1) same in
-    let a : c.byte-at.result ≡ get_or field 0 0 = c.byte-at.ensures ∙ ap (λ l. get_or l 0 0) same in
-    let b : c.byte-at-else-tag-lt10.result ≡ get_or field 1 0 = c.byte-at-else-tag-lt10.ensures ∙ ap (λ l. get_or l 1 0) same in
-    let short : length field - 1 ≤ c.args.size = omega (arith, ap length same, c.part-of-field.ensures.short) in
-    let rest : drop (p + 2) c.part-of-else-tag-lt10.result.now ≡ drop 2 (take (length field - 1) field) = ap (drop (p + 2)) (c.part-of-else-tag-lt10.ensures.value ∙ ap (λ n. take (p + n) bs) end) ∙ from_field bs p c.args.size (length field - 1) short in
+    let same = c.part_of-field.ensures.value in
+    let end : c.saturating_sub-end.result ≡ length field - 1 = c.saturating_sub-end.ensures ∙ ap (λ l. length l - 1) same in
+    let a : c.byte_at.result ≡ get_or field 0 0 = c.byte_at.ensures ∙ ap (λ l. get_or l 0 0) same in
+    let b : c.byte_at-else-tag-lt10.result ≡ get_or field 1 0 = c.byte_at-else-tag-lt10.ensures ∙ ap (λ l. get_or l 1 0) same in
+    let short : length field - 1 ≤ c.args.size = omega (arith, ap length same, c.part_of-field.ensures.short) in
+    let rest : drop (p + 2) c.part_of-else-tag-lt10.result.now ≡ drop 2 (take (length field - 1) field) = ap (drop (p + 2)) (c.part_of-else-tag-lt10.ensures.value ∙ ap (λ n. take (p + n) bs) end) ∙ from_field bs p c.args.size (length field - 1) short in
     let subfields = c.new.ensures ∙ ap (subfields_in (p + 2)) rest in
     (λ i. coded (a i) (b i) (subfields i)) ∙ sym (cond-false _ _ _ (le-ltb _ 10 c.if-tag-lt10.false))

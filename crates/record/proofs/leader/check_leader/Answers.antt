@@ -12,11 +12,11 @@ loop-position-init c = refl
 
 pub loop-position-preserved : goal.loop-position-preserved
 loop-position-preserved c =
-    c.loop-position.invariant ∙ kept (leader_rule c.args.bytes.now) (λ p. Leader p) _ 24 c.loop-position-test.true c.if-not-position-holds.ensures
+    c.loop-position.invariant ∙ kept (leader_rule c.args.bytes.now) (λ p. Leader p) _ 24 c.loop-position-test.true c.if-not-position_holds.ensures
 
-pub returns-then-not-position-holds : goal.returns-then-not-position-holds
-returns-then-not-position-holds c =
-    sym (ap (λ l. verdict l tt) c.loop-position.invariant ∙ broken (leader_rule c.args.bytes.now) (λ p. Leader p) _ 24 c.loop-position-test.true tt c.if-not-position-holds.ensures)
+pub returns-then-not-position_holds : goal.returns-then-not-position_holds
+returns-then-not-position_holds c =
+    sym (ap (λ l. verdict l tt) c.loop-position.invariant ∙ broken (leader_rule c.args.bytes.now) (λ p. Leader p) _ 24 c.loop-position-test.true tt c.if-not-position_holds.ensures)
 
 pub returns : goal.returns
 returns c = sym (ap (λ l. verdict l tt) (c.loop-position.invariant ∙ ended _ _ 24 c.loop-position-test.false))

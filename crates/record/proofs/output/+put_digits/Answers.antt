@@ -7,7 +7,7 @@ use Rattle.record.proofs.output.+put_digits.Goals as goal
 
 pub returns-then-size-gt0 : goal.returns-then-size-gt0
 returns-then-size-gt0 t c =
-    put_digit c.args.out.now c.args.at c.args.size c.args.n _ _ c.if-size-gt0.true c.requires c.put-digits.ensures c.put-byte.ensures
+    put_digit c.args.out.now c.args.at c.args.size c.args.n _ _ c.if-size-gt0.true c.requires c.put_digits.ensures c.put_byte.ensures
 
 pub returns-else-size-gt0 : goal.returns-else-size-gt0
 returns-else-size-gt0 t c =

@@ -10,8 +10,8 @@ use Rattle.record.proofs.Laid.{length-entry}
 use Rattle.record.proofs.Puts.{put_none, put_next}
 use Rattle.record.proofs.output.put_directory.Goals as goal
 
-pub put-entry-requires : goal.put-entry-requires
-put-entry-requires c =
+pub put_entry-requires : goal.put_entry-requires
+put_entry-requires c =
     let k = c.loop-extent.extent-index in
     (omega arith, ap (extent_rule (extent_of c.args.extents.now k)) c.loop-extent.invariant.1 ∙ c.requires.1 k c.loop-extent-test.true)
 
@@ -26,7 +26,7 @@ loop-extent-preserved c =
     let inv = c.loop-extent.invariant in (
       omega arith,
       ap (λ n. n + e.size) inv.1 ∙ sym (starts_next es k c.loop-extent-test.true),
-      put_next out place (entry e start) 12 (directory (start + e.size) (drop (k + 1) es)) _ _ c.put-entry.ensures (length-entry e start) (omega arith) refl
+      put_next out place (entry e start) 12 (directory (start + e.size) (drop (k + 1) es)) _ _ c.put_entry.ensures (length-entry e start) (omega arith) refl
           ∙ ap (put out place) (sym (at_drop_more (directory start) es k no_extent c.loop-extent-test.true))
           ∙ inv.2,
     )

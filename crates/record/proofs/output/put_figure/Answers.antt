@@ -5,4 +5,4 @@ use Rattle.record.proofs.Decimals.{figure_digits}
 use Rattle.record.proofs.output.put_figure.Goals as goal
 
 pub returns : goal.returns
-returns c = c.put-digits.ensures ∙ ap (put c.args.out.now c.args.at) (sym (figure_digits c.args.size c.args.n c.requires.1))
+returns c = c.put_digits.ensures ∙ ap (put c.args.out.now c.args.at) (sym (figure_digits c.args.size c.args.n c.requires.1))

@@ -27,10 +27,10 @@ returns c =
     let s3 : 25 + n - 1 ≡ 0 + (24 + n) = omega arith in
     let s4 : 25 + n ≡ 0 + (25 + n) = omega arith in
     let s5 : 25 + n + length fs ≡ 0 + (25 + n + length fs) = omega arith in
-    let p1 = c.put-leader.ensures ∙ ap (λ m. put old 0 (leader codes m (25 + n))) s1 in
-    let p2 = put_next old 0 one 24 (directory 0 es) _ _ p1 l1 (omega arith) c.put-directory.ensures in
-    let p3 = put_next old 0 two (24 + n) (30 ∷ []) _ _ p2 l2 (omega arith) (c.put-byte.ensures ∙ ap (λ m. put c.put-directory.new.out m (30 ∷ [])) s3) in
-    let p4 = put_next old 0 three (25 + n) fs _ _ p3 l3 (omega arith) (c.put-bytes.ensures ∙ ap (λ m. put c.put-byte.new.out m fs) s4) in
-    let p5 = put_next old 0 four (25 + n + length fs) (29 ∷ []) _ _ p4 l4 (omega arith) (c.put-byte-2.ensures ∙ ap (λ m. put c.put-bytes.new.out m (29 ∷ [])) s5) in
+    let p1 = c.put_leader.ensures ∙ ap (λ m. put old 0 (leader codes m (25 + n))) s1 in
+    let p2 = put_next old 0 one 24 (directory 0 es) _ _ p1 l1 (omega arith) c.put_directory.ensures in
+    let p3 = put_next old 0 two (24 + n) (30 ∷ []) _ _ p2 l2 (omega arith) (c.put_byte.ensures ∙ ap (λ m. put c.put_directory.new.out m (30 ∷ [])) s3) in
+    let p4 = put_next old 0 three (25 + n) fs _ _ p3 l3 (omega arith) (c.put_bytes.ensures ∙ ap (λ m. put c.put_byte.new.out m fs) s4) in
+    let p5 = put_next old 0 four (25 + n + length fs) (29 ∷ []) _ _ p4 l4 (omega arith) (c.put_byte-2.ensures ∙ ap (λ m. put c.put_bytes.new.out m (29 ∷ [])) s5) in
     let whole : four ++ (29 ∷ []) ≡ one ++ (directory 0 es ++ (30 ∷ (fs ++ (29 ∷ [])))) = simp append_assoc in
     p5 ∙ ap (put old 0) whole

@@ -12,34 +12,34 @@ use Rattle.record.proofs.parts.check_contents.Goals as goal
 use Rattle.record.proofs.parts.check_contents.Goals.{After-from}
 
 -- the field that is checked is field k
-same : (c : After-from) → field_faults c.from.result c.part-of-field.result.now (25 + 12 * length c.args.extents.now + c.loop-k.start) ≡ content_faults c.args.extents.now c.args.fields.now c.loop-k.k
+same : (c : After-from) → field_faults c.from.result c.part_of-field.result.now (25 + 12 * length c.args.extents.now + c.loop-k.start) ≡ content_faults c.args.extents.now c.args.fields.now c.loop-k.k
 same c =
     let es = c.args.extents.now in
     let e = extent_of es c.loop-k.k in
     let base = 25 + 12 * length es in
-    (λ i. field_faults (c.from.ensures i) (c.part-of-field.ensures.value i) (base + c.loop-k.start))
+    (λ i. field_faults (c.from.ensures i) (c.part_of-field.ensures.value i) (base + c.loop-k.start))
     ∙ ap (λ s. field_faults e.tag (part c.args.fields.now s e.size) (base + s)) c.loop-k.invariant.1
 
-pub overflow-add-base-in-loop-k : goal.overflow-add-base-in-loop-k
-overflow-add-base-in-loop-k c = omega (arith, starts_within c.args.extents.now c.loop-k.k c.loop-k-test.true)
+pub overflow_add-base-in-loop-k : goal.overflow_add-base-in-loop-k
+overflow_add-base-in-loop-k c = omega (arith, starts_within c.args.extents.now c.loop-k.k c.loop-k-test.true)
 
-pub check-field-requires : goal.check-field-requires
-check-field-requires c = omega (arith, starts_within c.args.extents.now c.loop-k.k c.loop-k-test.true, c.part-of-field.ensures.short)
+pub check_field-requires : goal.check_field-requires
+check_field-requires c = omega (arith, starts_within c.args.extents.now c.loop-k.k c.loop-k-test.true, c.part_of-field.ensures.short)
 
-pub overflow-add-start : goal.overflow-add-start
-overflow-add-start c = omega (arith, starts_within c.args.extents.now c.loop-k.k c.loop-k-test.true)
+pub overflow_add-start : goal.overflow_add-start
+overflow_add-start c = omega (arith, starts_within c.args.extents.now c.loop-k.k c.loop-k-test.true)
 
-pub returns-in-err-check-field : goal.returns-in-err-check-field
-returns-in-err-check-field c =
+pub returns-in_err-check_field : goal.returns-in_err-check_field
+returns-in_err-check_field c =
     returned _ _ c.from-residual.ensures.1
-    ∙ found (content_faults c.args.extents.now c.args.fields.now) c.loop-k.k _ c.loop-k-test.true tt tt _ (c.in-err-check-field.ensures ∙ ap (λ l. verdict l tt) (same (goal.at.returns-in-err-check-field c).After-from))
+    ∙ found (content_faults c.args.extents.now c.args.fields.now) c.loop-k.k _ c.loop-k-test.true tt tt _ (c.in_err-check_field.ensures ∙ ap (λ l. verdict l tt) (same (goal.at.returns-in_err-check_field c).After-from))
     ∙ ap (λ l. verdict l tt) (sym c.loop-k.invariant.0)
 
 pub loop-k-preserved : goal.loop-k-preserved
 loop-k-preserved c =
     let es = c.args.extents.now in
     let k = c.loop-k.k in (
-      c.loop-k.invariant.0 ∙ passed (content_faults es c.args.fields.now) k _ c.loop-k-test.true (sym (same (goal.at.loop-k-preserved c).After-from) ∙ none _ _ _ c.in-ok-check-field.ensures),
+      c.loop-k.invariant.0 ∙ passed (content_faults es c.args.fields.now) k _ c.loop-k-test.true (sym (same (goal.at.loop-k-preserved c).After-from) ∙ none _ _ _ c.in_ok-check_field.ensures),
       ap (λ n. n + (extent_of es k).size) c.loop-k.invariant.1 ∙ sym (starts_next es k c.loop-k-test.true),
     )
 

@@ -9,25 +9,25 @@ use Rattle.record.proofs.Extents.{fits_when, starts_all, starts_next}
 use Rattle.record.proofs.Ranges.{kept, broken, ended}
 use Rattle.record.proofs.parts.check_extents.Goals as goal
 
-pub overflow-add-start : goal.overflow-add-start
-overflow-add-start c = omega (arith, (fits_when (extent_of c.args.extents.now c.loop-k.k) c.loop-k.start (sym c.if-not-extent-holds.ensures)).small_size)
+pub overflow_add-start : goal.overflow_add-start
+overflow_add-start c = omega (arith, (fits_when (extent_of c.args.extents.now c.loop-k.k) c.loop-k.start (sym c.if-not-extent_holds.ensures)).small_size)
 
 pub loop-k-preserved : goal.loop-k-preserved
 loop-k-preserved c =
     let es = c.args.extents.now in
     let k = c.loop-k.k in
     let inv = c.loop-k.invariant in (
-      inv.0 ∙ kept (λ j. extent_rule (extent_of es j) (starts es j)) (λ j. Entry (entry_place j)) k _ c.loop-k-test.true (c.if-not-extent-holds.ensures ∙ ap (extent_rule (extent_of es k)) inv.1),
+      inv.0 ∙ kept (λ j. extent_rule (extent_of es j) (starts es j)) (λ j. Entry (entry_place j)) k _ c.loop-k-test.true (c.if-not-extent_holds.ensures ∙ ap (extent_rule (extent_of es k)) inv.1),
       ap (λ n. n + (extent_of es k).size) inv.1 ∙ sym (starts_next es k c.loop-k-test.true),
-      omega (arith, (fits_when (extent_of es k) c.loop-k.start (sym c.if-not-extent-holds.ensures)).small_size),
+      omega (arith, (fits_when (extent_of es k) c.loop-k.start (sym c.if-not-extent_holds.ensures)).small_size),
     )
 
-pub returns-then-not-extent-holds : goal.returns-then-not-extent-holds
-returns-then-not-extent-holds c =
+pub returns-then-not-extent_holds : goal.returns-then-not-extent_holds
+returns-then-not-extent_holds c =
     let es = c.args.extents.now in
     let k = c.loop-k.k in
     let inv = c.loop-k.invariant in
-    sym (ap (λ l. verdict l (total es)) inv.0 ∙ broken (λ j. extent_rule (extent_of es j) (starts es j)) (λ j. Entry (entry_place j)) k _ c.loop-k-test.true (total es) (c.if-not-extent-holds.ensures ∙ ap (extent_rule (extent_of es k)) inv.1))
+    sym (ap (λ l. verdict l (total es)) inv.0 ∙ broken (λ j. extent_rule (extent_of es j) (starts es j)) (λ j. Entry (entry_place j)) k _ c.loop-k-test.true (total es) (c.if-not-extent_holds.ensures ∙ ap (extent_rule (extent_of es k)) inv.1))
 
 pub returns : goal.returns
 returns c =

@@ -71,47 +71,47 @@ module _ (cs : List ℕ) (es : List Extent) (fs : List ℕ) where
           in_none : contents ≡ [] → Ok (laid_length es fs) ≡ answer
           in_none e = ap (λ l. verdict l (laid_length es fs)) (sym (at_contents ∙ skip _ e))
 
-pub returns-in-err-len : goal.returns-in-err-len
-returns-in-err-len c =
-    returned _ _ c.from-residual.ensures.1 ∙ in_length c.args.codes.now c.args.extents.now c.args.fields.now _ c.in-err-len.ensures
+pub returns-in_err-len : goal.returns-in_err-len
+returns-in_err-len c =
+    returned _ _ c.from-residual.ensures.1 ∙ in_length c.args.codes.now c.args.extents.now c.args.fields.now _ c.in_err-len.ensures
 
-pub returns-in-err-check-codes : goal.returns-in-err-check-codes
-returns-in-err-check-codes c =
+pub returns-in_err-check_codes : goal.returns-in_err-check_codes
+returns-in_err-check_codes c =
     let cs = c.args.codes.now in
     let es = c.args.extents.now in
     let fs = c.args.fields.now in
-    returned _ _ c.from-residual-in-err-check-codes.ensures.1 ∙ in_codes cs es fs (none (length_faults es fs) _ _ c.in-ok-len.ensures) tt _ c.in-err-check-codes.ensures
+    returned _ _ c.from-residual-in_err-check_codes.ensures.1 ∙ in_codes cs es fs (none (length_faults es fs) _ _ c.in_ok-len.ensures) tt _ c.in_err-check_codes.ensures
 
-pub returns-in-err-sum : goal.returns-in-err-sum
-returns-in-err-sum c =
+pub returns-in_err-sum : goal.returns-in_err-sum
+returns-in_err-sum c =
     let cs = c.args.codes.now in
     let es = c.args.extents.now in
     let fs = c.args.fields.now in
-    returned _ _ c.from-residual-in-err-sum.ensures.1
-    ∙ in_extents cs es fs (none (length_faults es fs) _ _ c.in-ok-len.ensures) (none (codes cs es fs) _ _ c.in-ok-check-codes.ensures) _ c.in-err-sum.ensures
+    returned _ _ c.from-residual-in_err-sum.ensures.1
+    ∙ in_extents cs es fs (none (length_faults es fs) _ _ c.in_ok-len.ensures) (none (codes cs es fs) _ _ c.in_ok-check_codes.ensures) _ c.in_err-sum.ensures
 
 pub returns-then-sum-fields : goal.returns-then-sum-fields
 returns-then-sum-fields c =
     let cs = c.args.codes.now in
     let es = c.args.extents.now in
     let fs = c.args.fields.now in
-    let sum = value (extents cs es fs) (total es) _ c.in-ok-sum.ensures in
-    in_sum cs es fs (none (length_faults es fs) _ _ c.in-ok-len.ensures) (none (codes cs es fs) _ _ c.in-ok-check-codes.ensures) (none (extents cs es fs) _ _ c.in-ok-sum.ensures) (λ e. c.if-sum-fields.true (sum ∙ e))
+    let sum = value (extents cs es fs) (total es) _ c.in_ok-sum.ensures in
+    in_sum cs es fs (none (length_faults es fs) _ _ c.in_ok-len.ensures) (none (codes cs es fs) _ _ c.in_ok-check_codes.ensures) (none (extents cs es fs) _ _ c.in_ok-sum.ensures) (λ e. c.if-sum-fields.true (sum ∙ e))
 
-pub returns-in-err-check-contents : goal.returns-in-err-check-contents
-returns-in-err-check-contents c =
+pub returns-in_err-check_contents : goal.returns-in_err-check_contents
+returns-in_err-check_contents c =
     let cs = c.args.codes.now in
     let es = c.args.extents.now in
     let fs = c.args.fields.now in
-    let sum = value (extents cs es fs) (total es) _ c.in-ok-sum.ensures in
-    returned _ _ c.from-residual-in-err-check-contents.ensures.1
-    ∙ in_contents cs es fs (none (length_faults es fs) _ _ c.in-ok-len.ensures) (none (codes cs es fs) _ _ c.in-ok-check-codes.ensures) (none (extents cs es fs) _ _ c.in-ok-sum.ensures) (sym sum ∙ c.if-sum-fields.false) tt _ c.in-err-check-contents.ensures
+    let sum = value (extents cs es fs) (total es) _ c.in_ok-sum.ensures in
+    returned _ _ c.from-residual-in_err-check_contents.ensures.1
+    ∙ in_contents cs es fs (none (length_faults es fs) _ _ c.in_ok-len.ensures) (none (codes cs es fs) _ _ c.in_ok-check_codes.ensures) (none (extents cs es fs) _ _ c.in_ok-sum.ensures) (sym sum ∙ c.if-sum-fields.false) tt _ c.in_err-check_contents.ensures
 
 pub returns : goal.returns
 returns c =
     let cs = c.args.codes.now in
     let es = c.args.extents.now in
     let fs = c.args.fields.now in
-    let sum = value (extents cs es fs) (total es) _ c.in-ok-sum.ensures in
-    ap Ok (value (length_faults es fs) (laid_length es fs) _ c.in-ok-len.ensures)
-    ∙ in_none cs es fs (none (length_faults es fs) _ _ c.in-ok-len.ensures) (none (codes cs es fs) _ _ c.in-ok-check-codes.ensures) (none (extents cs es fs) _ _ c.in-ok-sum.ensures) (sym sum ∙ c.if-sum-fields.false) (none (contents cs es fs) _ _ c.in-ok-check-contents.ensures)
+    let sum = value (extents cs es fs) (total es) _ c.in_ok-sum.ensures in
+    ap Ok (value (length_faults es fs) (laid_length es fs) _ c.in_ok-len.ensures)
+    ∙ in_none cs es fs (none (length_faults es fs) _ _ c.in_ok-len.ensures) (none (codes cs es fs) _ _ c.in_ok-check_codes.ensures) (none (extents cs es fs) _ _ c.in_ok-sum.ensures) (sym sum ∙ c.if-sum-fields.false) (none (contents cs es fs) _ _ c.in_ok-check_contents.ensures)

@@ -21,7 +21,7 @@ use Rattle.record.proofs.Numbers.{told_parts}
 use Rattle.record.proofs.Trips.{laid_parts, read_back}
 use Rattle.record.proofs.Verdicts.{none, returned, value}
 use Rattle.record.proofs.writing.write.Goals as goal
-use Rattle.record.proofs.writing.write.Goals.{In-ok-len}
+use Rattle.record.proofs.writing.write.Goals.{In_ok-len}
 
 -- the first fault of the frame is the first of writing
 carried : (fs : List FrameFault) (rest : List WriteFault) (x y : ℕ) (f : FrameFault) → Err f ≡ verdict fs x → Err (Frame f) ≡ verdict (map Frame fs ++ rest) y
@@ -43,14 +43,14 @@ room_formed codes es fs old r is p formed of =
     ∙ sym (roomy (layout p) old (laid_framed (layout p) (record { parts = p; formed = formed; end_to_end = refl })) (leb (length (layout p)) (length old)) refl)
 
 -- the record that parts without faults make, and its length
-framed : (c : In-ok-len) → Framed (laid c.args.codes.now c.args.extents.now c.args.fields.now)
-framed c = framed_when c.args.codes.now c.args.extents.now c.args.fields.now (omega arith) (none _ _ _ c.in-ok-len.ensures)
+framed : (c : In_ok-len) → Framed (laid c.args.codes.now c.args.extents.now c.args.fields.now)
+framed c = framed_when c.args.codes.now c.args.extents.now c.args.fields.now (omega arith) (none _ _ _ c.in_ok-len.ensures)
 
-long : (c : In-ok-len) → c.in-ok-len.len ≡ length (laid c.args.codes.now c.args.extents.now c.args.fields.now)
-long c = value _ _ _ c.in-ok-len.ensures ∙ sym (length-laid c.args.codes.now c.args.extents.now c.args.fields.now (omega arith))
+long : (c : In_ok-len) → c.in_ok-len.len ≡ length (laid c.args.codes.now c.args.extents.now c.args.fields.now)
+long c = value _ _ _ c.in_ok-len.ensures ∙ sym (length-laid c.args.codes.now c.args.extents.now c.args.fields.now (omega arith))
 
-pub returns-in-err-len : goal.returns-in-err-len
-returns-in-err-len c =
+pub returns-in_err-len : goal.returns-in_err-len
+returns-in_err-len c =
     let codes = c.args.codes.now in
     let es = c.args.extents.now in
     let fs = c.args.fields.now in
@@ -58,29 +58,29 @@ returns-in-err-len c =
     let old = c.args.out.now in
     let is = returned _ _ c.from-residual.ensures.1 in
     let Back : Result ℕ WriteFault → Type 0 = λ r. IfOk r (λ n. ReadBack codes es fs (take n old)) in
-    let answer = is ∙ first_fault codes es fs old (omega arith) _ c.in-err-len.ensures in
+    let answer = is ∙ first_fault codes es fs old (omega arith) _ c.in_err-len.ensures in
     record {
       answer = answer;
       buffer = sym (ap (λ r. left_by r bs old) is);
-      numbers = subst (λ r. IfErr r (λ f. write_number (write_values f).number ≡ true)) (sym is) (told_parts codes es fs (laid_length es fs) _ c.in-err-len.ensures);
+      numbers = subst (λ r. IfErr r (λ f. write_number (write_values f).number ≡ true)) (sym is) (told_parts codes es fs (laid_length es fs) _ c.in_err-len.ensures);
       formed = room_formed codes es fs old _ answer;
       read_back = subst Back (sym is) tt;
     }
 
 pub returns-then-out-len : goal.returns-then-out-len
 returns-then-out-len c =
-    let d = (goal.at.returns-then-out-len c).In-ok-len in
+    let d = (goal.at.returns-then-out-len c).In_ok-len in
     let l = long d in
     let answer = roomy _ c.args.out.now (framed d) false (lt-leb _ _ (omega arith)) in
     record { answer = answer; buffer = refl; numbers = refl; formed = room_formed _ _ _ _ _ answer; read_back = tt }
 
-pub put-record-requires : goal.put-record-requires
-put-record-requires c =
+pub put_record-requires : goal.put_record-requires
+put_record-requires c =
     let codes = c.args.codes.now in
     let es = c.args.extents.now in
     let fs = c.args.fields.now in
-    let right = right_when codes es fs (omega arith) (framed (goal.at.put-record-requires c).In-ok-len) in
-    let l = value (parts_faults codes es fs) (laid_length es fs) _ c.in-ok-len.ensures in
+    let right = right_when codes es fs (omega arith) (framed (goal.at.put_record-requires c).In_ok-len) in
+    let l = value (parts_faults codes es fs) (laid_length es fs) _ c.in_ok-len.ensures in
     ((omega (arith, l), right.short), rule_laid codes es fs right)
 
 pub returns : goal.returns
@@ -90,10 +90,10 @@ returns c =
     let fs = c.args.fields.now in
     let bs = laid codes es fs in
     let old = c.args.out.now in
-    let d = (goal.at.returns c).In-ok-len in
+    let d = (goal.at.returns c).In_ok-len in
     let l = long d in
-    let whole = c.put-record.ensures ∙ ap (λ n. bs ++ drop n old) (zero-add (length bs)) in
-    let written = ap (take c.in-ok-len.len) whole ∙ take_at bs (drop (length bs) old) c.in-ok-len.len (sym l) in
+    let whole = c.put_record.ensures ∙ ap (λ n. bs ++ drop n old) (zero-add (length bs)) in
+    let written = ap (take c.in_ok-len.len) whole ∙ take_at bs (drop (length bs) old) c.in_ok-len.len (sym l) in
     let answer = ap Ok l ∙ roomy bs old (framed d) true (le-leb _ _ (omega arith)) in
     record {
       answer = answer;

@@ -12,12 +12,12 @@ and_true true y e = e
 and_true false y e = refl
 
 pub loop-code-preserved : goal.loop-code-preserved
-loop-code-preserved c = c.loop-code.invariant ∙ each_more code_character _ _ c.loop-code-test.true (sym c.if-not-is-code-character.ensures)
+loop-code-preserved c = c.loop-code.invariant ∙ each_more code_character _ _ c.loop-code-test.true (sym c.if-not-is_code_character.ensures)
 
-pub returns-then-not-is-code-character : goal.returns-then-not-is-code-character
-returns-then-not-is-code-character c = sym (and_right _ _ (c.loop-code.invariant ∙ each_stop code_character _ _ c.loop-code-test.true (sym c.if-not-is-code-character.ensures)))
+pub returns-then-not-is_code_character : goal.returns-then-not-is_code_character
+returns-then-not-is_code_character c = sym (and_right _ _ (c.loop-code.invariant ∙ each_stop code_character _ _ c.loop-code-test.true (sym c.if-not-is_code_character.ensures)))
 
 pub returns : goal.returns
 returns c =
     let all = c.loop-code.invariant ∙ at_drop_all (each code_character) _ _ c.loop-code-test.false in
-    ap not c.is-empty.ensures ∙ sym (and_true _ _ all)
+    ap not c.is_empty.ensures ∙ sym (and_true _ _ all)

@@ -7,10 +7,10 @@ use Rattle.rows.proofs.Steps.{each_more, each_stop}
 use Rattle.rows.proofs.checking.are_subfield_codes.Goals as goal
 
 pub loop-code-preserved : goal.loop-code-preserved
-loop-code-preserved c = c.loop-code.invariant ∙ each_more subfield_code _ _ c.loop-code-test.true (sym c.if-not-is-subfield-code.ensures)
+loop-code-preserved c = c.loop-code.invariant ∙ each_more subfield_code _ _ c.loop-code-test.true (sym c.if-not-is_subfield_code.ensures)
 
-pub returns-then-not-is-subfield-code : goal.returns-then-not-is-subfield-code
-returns-then-not-is-subfield-code c = sym (c.loop-code.invariant ∙ each_stop subfield_code _ _ c.loop-code-test.true (sym c.if-not-is-subfield-code.ensures))
+pub returns-then-not-is_subfield_code : goal.returns-then-not-is_subfield_code
+returns-then-not-is_subfield_code c = sym (c.loop-code.invariant ∙ each_stop subfield_code _ _ c.loop-code-test.true (sym c.if-not-is_subfield_code.ensures))
 
 pub returns : goal.returns
 returns c = sym (c.loop-code.invariant ∙ at_drop_all subfield_codes _ _ c.loop-code-test.false)

@@ -15,15 +15,15 @@ loop-k-preserved c =
     let sets = c.args.sets.now in
     let within = c.loop-k-test.true in
     c.loop-k.invariant
-    ∙ kept (λ k. some_characters (get_or (seen_sets sets) k [])) (λ k. Leader (get_or code_positions k 0)) _ 8 (omega (arith, within, c.requires)) (c.if-not-are-some-characters.ensures ∙ ap some_characters (sym (get_or-map (λ s. s.now) sets _ _ [] within)))
+    ∙ kept (λ k. some_characters (get_or (seen_sets sets) k [])) (λ k. Leader (get_or code_positions k 0)) _ 8 (omega (arith, within, c.requires)) (c.if-not-are_some_characters.ensures ∙ ap some_characters (sym (get_or-map (λ s. s.now) sets _ _ [] within)))
 
-pub returns-then-not-are-some-characters : goal.returns-then-not-are-some-characters
-returns-then-not-are-some-characters c =
+pub returns-then-not-are_some_characters : goal.returns-then-not-are_some_characters
+returns-then-not-are_some_characters c =
     let sets = c.args.sets.now in
     let within = c.loop-k-test.true in
     ap (λ ps. Err (Leader (get_or ps c.loop-k.k 0))) c.positions.ensures
     ∙ sym (ap (λ l. verdict l tt) c.loop-k.invariant
-    ∙ broken (λ k. some_characters (get_or (seen_sets sets) k [])) (λ k. Leader (get_or code_positions k 0)) _ 8 (omega (arith, within, c.requires)) tt (c.if-not-are-some-characters.ensures ∙ ap some_characters (sym (get_or-map (λ s. s.now) sets _ _ [] within))))
+    ∙ broken (λ k. some_characters (get_or (seen_sets sets) k [])) (λ k. Leader (get_or code_positions k 0)) _ 8 (omega (arith, within, c.requires)) tt (c.if-not-are_some_characters.ensures ∙ ap some_characters (sym (get_or-map (λ s. s.now) sets _ _ [] within))))
 
 pub returns : goal.returns
 returns c = sym (ap (λ l. verdict l tt) (c.loop-k.invariant ∙ ended (leader_fault (seen_sets c.args.sets.now)) _ 8 (omega (arith, c.loop-k-test.false, c.requires))))

@@ -13,14 +13,14 @@ pub loop-k-preserved : goal.loop-k-preserved
 loop-k-preserved c =
     let rows = c.args.rows.now in
     let within = c.loop-k-test.true in
-    c.loop-k.invariant ∙ kept (λ k. row_rule (row_at (map seen_row rows) k)) (λ k. Row k) _ _ (listed rows _ within) (c.if-not-row-holds.ensures ∙ ap row_rule (row_is rows _ within _))
+    c.loop-k.invariant ∙ kept (λ k. row_rule (row_at (map seen_row rows) k)) (λ k. Row k) _ _ (listed rows _ within) (c.if-not-row_holds.ensures ∙ ap row_rule (row_is rows _ within _))
 
-pub returns-then-not-row-holds : goal.returns-then-not-row-holds
-returns-then-not-row-holds c =
+pub returns-then-not-row_holds : goal.returns-then-not-row_holds
+returns-then-not-row_holds c =
     let rows = c.args.rows.now in
     let within = c.loop-k-test.true in
     sym (ap (λ l. verdict l tt) c.loop-k.invariant
-    ∙ broken (λ k. row_rule (row_at (map seen_row rows) k)) (λ k. Row k) _ _ (listed rows _ within) tt (c.if-not-row-holds.ensures ∙ ap row_rule (row_is rows _ within _)))
+    ∙ broken (λ k. row_rule (row_at (map seen_row rows) k)) (λ k. Row k) _ _ (listed rows _ within) tt (c.if-not-row_holds.ensures ∙ ap row_rule (row_is rows _ within _)))
 
 pub returns : goal.returns
 returns c =

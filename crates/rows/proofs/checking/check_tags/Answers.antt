@@ -7,10 +7,10 @@ pub loop-k-init : goal.loop-k-init
 loop-k-init c = tags_begin c.args.rows.now
 
 pub loop-k-preserved : goal.loop-k-preserved
-loop-k-preserved c = tags_on c.args.rows.now c.loop-k.invariant _ c.loop-k-test.true c.if-not-tag-holds.ensures
+loop-k-preserved c = tags_on c.args.rows.now c.loop-k.invariant _ c.loop-k-test.true c.if-not-tag_holds.ensures
 
-pub returns-then-not-tag-holds : goal.returns-then-not-tag-holds
-returns-then-not-tag-holds c = tags_stop c.args.rows.now c.loop-k.invariant _ c.loop-k-test.true c.if-not-tag-holds.ensures
+pub returns-then-not-tag_holds : goal.returns-then-not-tag_holds
+returns-then-not-tag_holds c = tags_stop c.args.rows.now c.loop-k.invariant _ c.loop-k-test.true c.if-not-tag_holds.ensures
 
 pub returns : goal.returns
 returns c = tags_end c.args.rows.now c.loop-k.invariant c.loop-k-test.false

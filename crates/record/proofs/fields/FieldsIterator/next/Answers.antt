@@ -23,6 +23,6 @@ returns c =
     let s = c.args.self.now in
     let rest = fields_from s.bytes.now (s.next + 1) (s.entries - (s.next + 1)) in
     record {
-      steps = one_more s.bytes.now s.next s.entries c.if-k-self.false ∙ ap (λ f. f ∷ rest) (sym c.field-at.ensures);
+      steps = one_more s.bytes.now s.next s.entries c.if-k-self.false ∙ ap (λ f. f ∷ rest) (sym c.field_at.ensures);
       goes = firm ((tt, tt, omega (arith, c.if-k-self.false))) (λ h. search rules);
     }

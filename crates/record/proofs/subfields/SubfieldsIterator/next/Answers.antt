@@ -24,9 +24,9 @@ returns c =
         within = c.if-place-self.false;
         mark = c.delimiter-place.ensures.stops c.if-place-self.false;
         ended = ended;
-        rest_is = c.part-of-rest.ensures.value;
-        code_is = c.byte-at.ensures;
-        body_is = c.part-of.ensures.value;
+        rest_is = c.part_of-rest.ensures.value;
+        code_is = c.byte_at.ensures;
+        body_is = c.part_of.ensures.value;
       });
       goes = firm ((tt, tt, omega (arith, found, ended, c.if-place-self.false))) (λ h. search rules);
     }

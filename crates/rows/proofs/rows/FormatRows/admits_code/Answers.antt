@@ -11,7 +11,7 @@ returns-in-5-to-9 c =
     let p = c.args.position in
     let inside : code_position p ≡ true = grind (arith, nat_tests) in
     let at : place_of p ≡ p - 5 = grind (arith, nat_tests) in
-    let within : p - 5 < length c.args.self.now.leader = omega (arith, c.type-inv.self) in
+    let within : p - 5 < length c.args.self.now.leader = omega (arith, c.type_inv.self) in
     c.has.ensures ∙ set_at _ _ p _ _ inside at within
 
 pub returns-in-17-to-19 : goal.returns-in-17-to-19
@@ -19,5 +19,5 @@ returns-in-17-to-19 c =
     let p = c.args.position in
     let inside : code_position p ≡ true = grind (arith, nat_tests) in
     let at : place_of p ≡ p - 12 = grind (arith, nat_tests) in
-    let within : p - 12 < length c.args.self.now.leader = omega (arith, c.type-inv.self) in
+    let within : p - 12 < length c.args.self.now.leader = omega (arith, c.type_inv.self) in
     c.has-in-17-to-19.ensures ∙ set_at _ _ p _ _ inside at within
