@@ -67,8 +67,8 @@ pub(crate) fn check_field(tag: usize, field: &[u8], place: usize) -> Result<(), 
 
 // The first fault of field `k`, which begins at this place, or the place after it.
 fn check_next(bytes: &[u8], k: usize, place: usize) -> Result<usize, FrameFault>
-    requires k_in_bounds { (36 + 12 * k ≤ length bytes.now) × (length bytes.now ≤ 99999) }
-    requires place_value { (place ≡ field_place bytes.now k) × (place + entry_size bytes.now k ≤ length bytes.now) }
+    requires entry { (36 + 12 * k ≤ length bytes.now) × (length bytes.now ≤ 99999) }
+    requires field { (place ≡ field_place bytes.now k) × (place + entry_size bytes.now k ≤ length bytes.now) }
     ensures { result ≡ verdict (faults_of bytes.now k) (place + entry_size bytes.now k) }
 {
     let tag = number_at(bytes, 24 + 12 * k, 3);
@@ -79,8 +79,8 @@ fn check_next(bytes: &[u8], k: usize, place: usize) -> Result<usize, FrameFault>
 
 // The first fault among the fields, or none.
 pub(crate) fn check_fields(bytes: &[u8], entries: usize) -> Result<(), FrameFault>
-    requires entries_value { (entries ≡ entry_count bytes.now) × (base bytes.now ≡ 25 + 12 * entries) }
-    requires entries_value_2 { (base bytes.now + sizes_before bytes.now entries + 1 ≡ length bytes.now) × (length bytes.now ≤ 99999) }
+    requires counted { (entries ≡ entry_count bytes.now) × (base bytes.now ≡ 25 + 12 * entries) }
+    requires filled { (base bytes.now + sizes_before bytes.now entries + 1 ≡ length bytes.now) × (length bytes.now ≤ 99999) }
     ensures { result ≡ verdict (fields_faults bytes.now) tt }
 {
     let mut place = 25 + 12 * entries;

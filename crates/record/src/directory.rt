@@ -37,8 +37,8 @@ fn check_entries(bytes: &[u8], entries: usize) -> Result<usize, FrameFault>
 
 // Whether the directory ends where it should, and the fields, `sum` bytes in all, fill the record up to its last byte.
 fn end_holds(bytes: &[u8], entries: usize, sum: usize) -> bool
-    requires entries_value { (entries ≡ entry_count bytes.now) × (base bytes.now ≡ 25 + 12 * entries) }
-    requires bytes_in_bounds { (base bytes.now < length bytes.now) × (sum ≡ sizes_before bytes.now entries) }
+    requires counted { (entries ≡ entry_count bytes.now) × (base bytes.now ≡ 25 + 12 * entries) }
+    requires inside { (base bytes.now < length bytes.now) × (sum ≡ sizes_before bytes.now entries) }
     ensures { result ≡ directory_end_rule bytes.now }
 {
     let end = 24 + 12 * entries;
@@ -47,8 +47,8 @@ fn end_holds(bytes: &[u8], entries: usize, sum: usize) -> bool
 
 // The first fault of the directory, or none.
 pub(crate) fn check_directory(bytes: &[u8], entries: usize) -> Result<(), FrameFault>
-    requires entries_value { (entries ≡ entry_count bytes.now) × (base bytes.now ≡ 25 + 12 * entries) }
-    requires bytes_in_bounds { (base bytes.now < length bytes.now) × (length bytes.now ≤ 99999) }
+    requires counted { (entries ≡ entry_count bytes.now) × (base bytes.now ≡ 25 + 12 * entries) }
+    requires inside { (base bytes.now < length bytes.now) × (length bytes.now ≤ 99999) }
     ensures { result ≡ verdict (directory_faults bytes.now) tt }
 {
     let sum = check_entries(bytes, entries)?;

@@ -52,8 +52,8 @@ fn put_entry(out: &mut [u8], at: usize, extent: Extent, start: usize)
 
 // Writes the directory entries.
 fn put_directory(out: &mut [u8], at: usize, extents: &[Extent])
-    requires extents_in_bounds { at + 12 * length extents.now ≤ length out.old }
-    requires by_index { (k : ℕ) → k < length extents.now → extent_rule (extent_of extents.now k) (starts extents.now k) ≡ true }
+    requires room { at + 12 * length extents.now ≤ length out.old }
+    requires right { (k : ℕ) → k < length extents.now → extent_rule (extent_of extents.now k) (starts extents.now k) ≡ true }
     ensures { out.new ≡ put out.old at (directory 0 extents.now) }
 {
     let mut place = at;
@@ -80,8 +80,8 @@ fn put_leader(out: &mut [u8], codes: &[u8; 8], len: usize, base: usize)
 
 // Writes a record whose parts have no fault.
 pub(crate) fn put_record(out: &mut [u8], codes: &[u8; 8], extents: &[Extent], fields: &[u8])
-    requires fields_in_bounds { (laid_length extents.now fields.now ≤ length out.old) × (laid_length extents.now fields.now ≤ 99999) }
-    requires by_index { (k : ℕ) → k < length extents.now → extent_rule (extent_of extents.now k) (starts extents.now k) ≡ true }
+    requires room { (laid_length extents.now fields.now ≤ length out.old) × (laid_length extents.now fields.now ≤ 99999) }
+    requires right { (k : ℕ) → k < length extents.now → extent_rule (extent_of extents.now k) (starts extents.now k) ≡ true }
     ensures { out.new ≡ put out.old 0 (laid codes.now extents.now fields.now) }
 {
     let base = 25 + 12 * extents.len();

@@ -19,5 +19,5 @@ returns-in_err-len c =
     let old = c.args.out.now in
     let is = known (Reads bs) _ _ c.in_ok-parts.ensures in
     let no = refused bs _ is _ _ _ c.codes.ensures (c.as_slice.ensures.value ∙ c.in_ok-extents.ensures) c.contents.ensures old _ _ c.in_err-len.ensures.answer c.in_err-len.ensures.buffer in
-    let told = returned _ _ c.from-residual-in_err-len.ensures.1 in
+    let told = returned _ _ c.from_residual-in_err-len.ensures.1 in
     record { copy = subst (λ r. Copies bs old r c.write.new.out) (sym told) no; within = subst (λ r. IfOk r (λ n. n ≤ length c.write.new.out)) (sym told) tt }

@@ -20,7 +20,7 @@ loop-field-preserved g c = (
 
 pub returns-in_err-check_both : goal.returns-in_err-check_both
 returns-in_err-check_both g c =
-    returned _ _ c.from-residual.ensures.1 ∙ stops (moved c.loop-field.invariant.0 (ap fields_left c.into-iter-field-iterator.ensures.into-iter-gives)) c.in-Some.ensures.steps c.in_err-check_both.ensures
+    returned _ _ c.from_residual.ensures.1 ∙ stops (moved c.loop-field.invariant.0 (ap fields_left c.into-iter-field-iterator.ensures.into-iter-gives)) c.in-Some.ensures.steps c.in_err-check_both.ensures
 
 pub returns : goal.returns
 returns g c =

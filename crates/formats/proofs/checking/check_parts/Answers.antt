@@ -13,27 +13,27 @@ check_indicators-requires g c = c.requires
 
 pub returns-in_err-check_leader : goal.returns-in_err-check_leader
 returns-in_err-check_leader g c =
-    returned _ _ c.from-residual.ensures.1
+    returned _ _ c.from_residual.ensures.1
     ∙ failed _ _ (at_leader (g.F.Format.meaning c.args.format.now) c.args.codes.now (fields_left c.args.fields)) _ _ _ c.in_err-check_leader.ensures
 
 pub returns-in_err-check_tags : goal.returns-in_err-check_tags
 returns-in_err-check_tags g c =
-    returned _ _ c.from-residual-in_err-check_tags.ensures.1
+    returned _ _ c.from_residual-in_err-check_tags.ensures.1
     ∙ failed _ _ (at_tags (g.F.Format.meaning c.args.format.now) c.args.codes.now (fields_left c.args.fields) c.in_ok-check_leader.ensures) _ _ _ c.in_err-check_tags.ensures
 
 pub returns-in_err-check_indicators : goal.returns-in_err-check_indicators
 returns-in_err-check_indicators g c =
-    returned _ _ c.from-residual-in_err-check_indicators.ensures.1
+    returned _ _ c.from_residual-in_err-check_indicators.ensures.1
     ∙ failed _ _ (at_indicators (g.F.Format.meaning c.args.format.now) c.args.codes.now (fields_left c.args.fields) c.in_ok-check_leader.ensures c.in_ok-check_tags.ensures) _ _ _ c.in_err-check_indicators.ensures
 
 pub returns-in_err-check_subfields : goal.returns-in_err-check_subfields
 returns-in_err-check_subfields g c =
-    returned _ _ c.from-residual-in_err-check_subfields.ensures.1
+    returned _ _ c.from_residual-in_err-check_subfields.ensures.1
     ∙ failed _ _ (at_subfields (g.F.Format.meaning c.args.format.now) c.args.codes.now (fields_left c.args.fields) c.in_ok-check_leader.ensures c.in_ok-check_tags.ensures c.in_ok-check_indicators.ensures) _ _ _ c.in_err-check_subfields.ensures
 
 pub returns-in_err-check_repeated_subfields : goal.returns-in_err-check_repeated_subfields
 returns-in_err-check_repeated_subfields g c =
-    returned _ _ c.from-residual-in_err-check_repeated_subfields.ensures.1
+    returned _ _ c.from_residual-in_err-check_repeated_subfields.ensures.1
     ∙ failed _ _ (at_repeated (g.F.Format.meaning c.args.format.now) c.args.codes.now (fields_left c.args.fields) c.in_ok-check_leader.ensures c.in_ok-check_tags.ensures c.in_ok-check_indicators.ensures c.in_ok-check_subfields.ensures) _ _ _ c.in_err-check_repeated_subfields.ensures
 
 pub returns : goal.returns

@@ -9,7 +9,7 @@ use Rattle.record.proofs.contents.check_fields.Goals as goal
 
 pub loop-k-init : goal.loop-k-init
 unfolding fields_faults
-loop-k-init c = (ap (over (faults_of c.args.bytes.now) 0) (sym c.requires.0.0), omega (arith, sizes_none c.args.bytes.now))
+loop-k-init c = (ap (over (faults_of c.args.bytes.now) 0) (sym c.requires.counted.0), omega (arith, sizes_none c.args.bytes.now))
 
 pub check_next-requires : goal.check_next-requires
 check_next-requires c =
@@ -17,11 +17,11 @@ check_next-requires c =
     let k = c.loop-k.k in
     let more = sizes_mono bs (k + 1) c.args.entries (omega arith) in
     let step = sizes_next bs k in
-    ((omega arith, omega arith), (c.loop-k.invariant.1, omega arith))
+    record { entry = (omega arith, omega arith); field = (c.loop-k.invariant.1, omega arith) }
 
 pub returns-in_err-place : goal.returns-in_err-place
 returns-in_err-place c =
-    returned _ _ c.from-residual.ensures.1
+    returned _ _ c.from_residual.ensures.1
     ∙ found (faults_of c.args.bytes.now) c.loop-k.k c.args.entries c.loop-k-test.true _ tt _ c.in_err-place.ensures
     ∙ ap (λ l. verdict l tt) (sym c.loop-k.invariant.0)
 

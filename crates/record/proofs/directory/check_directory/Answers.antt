@@ -17,12 +17,12 @@ module _ (bs : List ℕ) (n : ℕ) (count : n ≡ entry_count bs) where
 
 pub returns-in_err-sum : goal.returns-in_err-sum
 returns-in_err-sum c =
-    returned _ _ c.from-residual.ensures.1 ∙ first _ _ _ tt _ c.in_err-sum.ensures ∙ ap (λ l. verdict l tt) (sym (whole c.args.bytes.now c.args.entries c.requires.0.0))
+    returned _ _ c.from_residual.ensures.1 ∙ first _ _ _ tt _ c.in_err-sum.ensures ∙ ap (λ l. verdict l tt) (sym (whole c.args.bytes.now c.args.entries c.requires.counted.0))
 
 pub returns-then-not-end_holds : goal.returns-then-not-end_holds
 returns-then-not-end_holds c =
-    last c.args.bytes.now c.args.entries c.requires.0.0 tt _ (none _ _ _ c.in_ok-sum.ensures) c.if-not-end_holds.ensures
+    last c.args.bytes.now c.args.entries c.requires.counted.0 tt _ (none _ _ _ c.in_ok-sum.ensures) c.if-not-end_holds.ensures
 
 pub returns : goal.returns
 returns c =
-    last c.args.bytes.now c.args.entries c.requires.0.0 tt _ (none _ _ _ c.in_ok-sum.ensures) c.if-not-end_holds.ensures
+    last c.args.bytes.now c.args.entries c.requires.counted.0 tt _ (none _ _ _ c.in_ok-sum.ensures) c.if-not-end_holds.ensures

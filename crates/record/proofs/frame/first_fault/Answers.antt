@@ -18,7 +18,7 @@ returns-then-not-size_holds c =
 pub returns-in_err-check_leader : goal.returns-in_err-check_leader
 returns-in_err-check_leader c =
     let bs = c.args.bytes.now in
-    returned _ _ c.from-residual.ensures.1
+    returned _ _ c.from_residual.ensures.1
     ∙ first _ _ tt (frame_of bs) _ c.in_err-check_leader.ensures
     ∙ ap (λ l. verdict l (frame_of bs)) (sym (at_leader bs c.if-not-size_holds.ensures))
 
@@ -36,12 +36,12 @@ pub check_directory-requires : goal.check_directory-requires
 check_directory-requires c =
     let b = based c.args.bytes.now (leader c) in
     let n = counted c in
-    ((n, omega arith), (b.inside, (between 26 99999 _ c.if-not-size_holds.ensures).1))
+    record { counted = (n, omega arith); inside = (b.inside, (between 26 99999 _ c.if-not-size_holds.ensures).1) }
 
 pub returns-in_err-check_directory : goal.returns-in_err-check_directory
 returns-in_err-check_directory c =
     let bs = c.args.bytes.now in
-    returned _ _ c.from-residual-in_err-check_directory.ensures.1
+    returned _ _ c.from_residual-in_err-check_directory.ensures.1
     ∙ first _ _ tt (frame_of bs) _ c.in_err-check_directory.ensures
     ∙ ap (λ l. verdict l (frame_of bs)) (sym (at_directory bs c.if-not-size_holds.ensures (none _ _ _ c.in_ok-check_leader.ensures)))
 
@@ -52,12 +52,12 @@ check_fields-requires c =
     let b = based bs (leader d) in
     let n = counted d in
     let f = filled bs (none _ _ _ c.in_ok-check_directory.ensures) in
-    ((n, omega arith), (rw n f, (between 26 99999 _ c.if-not-size_holds.ensures).1))
+    record { counted = (n, omega arith); filled = (rw n f, (between 26 99999 _ c.if-not-size_holds.ensures).1) }
 
 pub returns-in_err-check_fields : goal.returns-in_err-check_fields
 returns-in_err-check_fields c =
     let bs = c.args.bytes.now in
-    returned _ _ c.from-residual-in_err-check_fields.ensures.1
+    returned _ _ c.from_residual-in_err-check_fields.ensures.1
     ∙ first _ _ tt (frame_of bs) _ c.in_err-check_fields.ensures
     ∙ ap (λ l. verdict l (frame_of bs)) (sym (at_fields bs c.if-not-size_holds.ensures (none _ _ _ c.in_ok-check_leader.ensures) (none _ _ _ c.in_ok-check_directory.ensures)))
 

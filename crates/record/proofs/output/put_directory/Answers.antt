@@ -13,7 +13,7 @@ use Rattle.record.proofs.output.put_directory.Goals as goal
 pub put_entry-requires : goal.put_entry-requires
 put_entry-requires c =
     let k = c.loop-extent.extent-index in
-    (omega arith, ap (extent_rule (extent_of c.args.extents.now k)) c.loop-extent.invariant.1 ∙ c.requires.1 k c.loop-extent-test.true)
+    (omega arith, ap (extent_rule (extent_of c.args.extents.now k)) c.loop-extent.invariant.1 ∙ c.requires.right k c.loop-extent-test.true)
 
 pub loop-extent-preserved : goal.loop-extent-preserved
 loop-extent-preserved c =

@@ -31,7 +31,7 @@ overflow_add-start c = omega (arith, starts_within c.args.extents.now c.loop-k.k
 
 pub returns-in_err-check_field : goal.returns-in_err-check_field
 returns-in_err-check_field c =
-    returned _ _ c.from-residual.ensures.1
+    returned _ _ c.from_residual.ensures.1
     ∙ found (content_faults c.args.extents.now c.args.fields.now) c.loop-k.k _ c.loop-k-test.true tt tt _ (c.in_err-check_field.ensures ∙ ap (λ l. verdict l tt) (same (goal.at.returns-in_err-check_field c).After-from))
     ∙ ap (λ l. verdict l tt) (sym c.loop-k.invariant.0)
 

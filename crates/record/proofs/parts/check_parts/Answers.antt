@@ -73,21 +73,21 @@ module _ (cs : List ℕ) (es : List Extent) (fs : List ℕ) where
 
 pub returns-in_err-len : goal.returns-in_err-len
 returns-in_err-len c =
-    returned _ _ c.from-residual.ensures.1 ∙ in_length c.args.codes.now c.args.extents.now c.args.fields.now _ c.in_err-len.ensures
+    returned _ _ c.from_residual.ensures.1 ∙ in_length c.args.codes.now c.args.extents.now c.args.fields.now _ c.in_err-len.ensures
 
 pub returns-in_err-check_codes : goal.returns-in_err-check_codes
 returns-in_err-check_codes c =
     let cs = c.args.codes.now in
     let es = c.args.extents.now in
     let fs = c.args.fields.now in
-    returned _ _ c.from-residual-in_err-check_codes.ensures.1 ∙ in_codes cs es fs (none (length_faults es fs) _ _ c.in_ok-len.ensures) tt _ c.in_err-check_codes.ensures
+    returned _ _ c.from_residual-in_err-check_codes.ensures.1 ∙ in_codes cs es fs (none (length_faults es fs) _ _ c.in_ok-len.ensures) tt _ c.in_err-check_codes.ensures
 
 pub returns-in_err-sum : goal.returns-in_err-sum
 returns-in_err-sum c =
     let cs = c.args.codes.now in
     let es = c.args.extents.now in
     let fs = c.args.fields.now in
-    returned _ _ c.from-residual-in_err-sum.ensures.1
+    returned _ _ c.from_residual-in_err-sum.ensures.1
     ∙ in_extents cs es fs (none (length_faults es fs) _ _ c.in_ok-len.ensures) (none (codes cs es fs) _ _ c.in_ok-check_codes.ensures) _ c.in_err-sum.ensures
 
 pub returns-then-sum-fields : goal.returns-then-sum-fields
@@ -104,7 +104,7 @@ returns-in_err-check_contents c =
     let es = c.args.extents.now in
     let fs = c.args.fields.now in
     let sum = value (extents cs es fs) (total es) _ c.in_ok-sum.ensures in
-    returned _ _ c.from-residual-in_err-check_contents.ensures.1
+    returned _ _ c.from_residual-in_err-check_contents.ensures.1
     ∙ in_contents cs es fs (none (length_faults es fs) _ _ c.in_ok-len.ensures) (none (codes cs es fs) _ _ c.in_ok-check_codes.ensures) (none (extents cs es fs) _ _ c.in_ok-sum.ensures) (sym sum ∙ c.if-sum-fields.false) tt _ c.in_err-check_contents.ensures
 
 pub returns : goal.returns

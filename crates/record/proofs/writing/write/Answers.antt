@@ -56,7 +56,7 @@ returns-in_err-len c =
     let fs = c.args.fields.now in
     let bs = laid codes es fs in
     let old = c.args.out.now in
-    let is = returned _ _ c.from-residual.ensures.1 in
+    let is = returned _ _ c.from_residual.ensures.1 in
     let Back : Result ℕ WriteFault → Type 0 = λ r. IfOk r (λ n. ReadBack codes es fs (take n old)) in
     let answer = is ∙ first_fault codes es fs old (omega arith) _ c.in_err-len.ensures in
     record {
@@ -81,7 +81,7 @@ put_record-requires c =
     let fs = c.args.fields.now in
     let right = right_when codes es fs (omega arith) (framed (goal.at.put_record-requires c).In_ok-len) in
     let l = value (parts_faults codes es fs) (laid_length es fs) _ c.in_ok-len.ensures in
-    ((omega (arith, l), right.short), rule_laid codes es fs right)
+    record { room = (omega (arith, l), right.short); right = rule_laid codes es fs right }
 
 pub returns : goal.returns
 returns c =

@@ -17,13 +17,13 @@ from_rows c = let s = seen_rows c.args.self.now in passed (tag_faults s.rows) _ 
 pub returns-in_err-check_tags : goal.returns-in_err-check_tags
 returns-in_err-check_tags c =
     let s = seen_rows c.args.self.now in
-    returned _ _ c.from-residual.ensures.1 ∙ failed (tag_faults s.rows) _ (from_tags s) _ _ _ c.in_err-check_tags.ensures
+    returned _ _ c.from_residual.ensures.1 ∙ failed (tag_faults s.rows) _ (from_tags s) _ _ _ c.in_err-check_tags.ensures
 
 pub returns-in_err-check_rows : goal.returns-in_err-check_rows
 returns-in_err-check_rows c =
     let s = seen_rows c.args.self.now in
     let left = from_rows (goal.at.returns-in_err-check_rows c).In_ok-check_tags in
-    returned _ _ c.from-residual-in_err-check_rows.ensures.1 ∙ failed (row_faults s.rows) _ left _ _ _ c.in_err-check_rows.ensures
+    returned _ _ c.from_residual-in_err-check_rows.ensures.1 ∙ failed (row_faults s.rows) _ left _ _ _ c.in_err-check_rows.ensures
 
 pub returns : goal.returns
 returns c =
