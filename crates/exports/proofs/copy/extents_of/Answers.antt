@@ -11,5 +11,5 @@ loop-field-preserved c = one_more _ _ _ c.loop-field.invariant _ _ _ _ c.in-Some
 pub returns : goal.returns
 returns c =
     all_listed _ _ _ c.loop-field.invariant c.in-None.ensures.steps.0
-    ∙ ap (λ s. map extent_read (fields_left s)) c.into-iter-field-iterator.ensures.into-iter-gives
+    ∙ ap (λ s. map extent_read (fields_left s)) c.into_iter-field-iterator.ensures.into_iter_gives
     ∙ ap (map extent_read) c.fields-field-items.ensures.left

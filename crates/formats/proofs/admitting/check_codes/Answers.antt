@@ -12,8 +12,8 @@ loop-subfield-preserved g c = goes_on c.loop-subfield.invariant c.in-Some.ensure
 
 pub returns-then-not-has_subfield : goal.returns-then-not-has_subfield
 returns-then-not-has_subfield g c =
-    stops (moved c.loop-subfield.invariant (ap subfields_left c.into-iter-subfield-iterator.ensures.into-iter-gives)) c.in-Some.ensures.steps (broken c.if-not-has_subfield.ensures)
+    stops (moved c.loop-subfield.invariant (ap subfields_left c.into_iter-subfield-iterator.ensures.into_iter_gives)) c.in-Some.ensures.steps (broken c.if-not-has_subfield.ensures)
 
 pub returns : goal.returns
 returns g c =
-    ends (moved c.loop-subfield.invariant (ap subfields_left c.into-iter-subfield-iterator.ensures.into-iter-gives)) c.in-None.ensures.steps.0
+    ends (moved c.loop-subfield.invariant (ap subfields_left c.into_iter-subfield-iterator.ensures.into_iter_gives)) c.in-None.ensures.steps.0

@@ -7,7 +7,7 @@ use Rattle.record.proofs.Walks.{begins, ends, moved, passes, stops}
 use Rattle.formats.proofs.admitting.check_indicators.Goals as goal
 
 pub loop-field-init : goal.loop-field-init
-loop-field-init g c = (begins _ _, subst (λ s. All (λ f. f.place < 100000) (fields_left s)) (sym c.into-iter-field-iterator.ensures.into-iter-gives) c.requires)
+loop-field-init g c = (begins _ _, subst (λ s. All (λ f. f.place < 100000) (fields_left s)) (sym c.into_iter-field-iterator.ensures.into_iter_gives) c.requires)
 
 pub check_both-requires : goal.check_both-requires
 check_both-requires g c = (subst (All (λ f. f.place < 100000)) c.in-Some.ensures.steps c.loop-field.invariant.1).0
@@ -20,8 +20,8 @@ loop-field-preserved g c = (
 
 pub returns-in_err-check_both : goal.returns-in_err-check_both
 returns-in_err-check_both g c =
-    returned _ _ c.from_residual.ensures.1 ∙ stops (moved c.loop-field.invariant.0 (ap fields_left c.into-iter-field-iterator.ensures.into-iter-gives)) c.in-Some.ensures.steps c.in_err-check_both.ensures
+    returned _ _ c.from_residual.ensures.1 ∙ stops (moved c.loop-field.invariant.0 (ap fields_left c.into_iter-field-iterator.ensures.into_iter_gives)) c.in-Some.ensures.steps c.in_err-check_both.ensures
 
 pub returns : goal.returns
 returns g c =
-    ends (moved c.loop-field.invariant.0 (ap fields_left c.into-iter-field-iterator.ensures.into-iter-gives)) c.in-None.ensures.steps.0
+    ends (moved c.loop-field.invariant.0 (ap fields_left c.into_iter-field-iterator.ensures.into_iter_gives)) c.in-None.ensures.steps.0

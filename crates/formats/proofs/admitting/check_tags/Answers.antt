@@ -12,8 +12,8 @@ loop-field-preserved g c = goes_on c.loop-field.invariant c.in-Some.ensures.step
 
 pub returns-then-not-has_tag : goal.returns-then-not-has_tag
 returns-then-not-has_tag g c =
-    stops (moved c.loop-field.invariant (ap fields_left c.into-iter-field-iterator.ensures.into-iter-gives)) c.in-Some.ensures.steps (broken c.if-not-has_tag.ensures)
+    stops (moved c.loop-field.invariant (ap fields_left c.into_iter-field-iterator.ensures.into_iter_gives)) c.in-Some.ensures.steps (broken c.if-not-has_tag.ensures)
 
 pub returns : goal.returns
 returns g c =
-    ends (moved c.loop-field.invariant (ap fields_left c.into-iter-field-iterator.ensures.into-iter-gives)) c.in-None.ensures.steps.0
+    ends (moved c.loop-field.invariant (ap fields_left c.into_iter-field-iterator.ensures.into_iter_gives)) c.in-None.ensures.steps.0

@@ -15,7 +15,7 @@ loop-subfield-preserved g c = comes_first c.loop-subfield.invariant c.in-Some.en
 
 pub returns-then-seen-code : goal.returns-then-seen-code
 returns-then-seen-code g c =
-    comes_again (moved c.loop-subfield.invariant (ap subfields_left c.into-iter-subfield-iterator.ensures.into-iter-gives)) c.in-Some.ensures.steps c.if-not-is_code_once.ensures (search rules) c.if-seen-code.true
+    comes_again (moved c.loop-subfield.invariant (ap subfields_left c.into_iter-subfield-iterator.ensures.into_iter_gives)) c.in-Some.ensures.steps c.if-not-is_code_once.ensures (search rules) c.if-seen-code.true
 
 pub returns : goal.returns
-returns g c = ends (moved c.loop-subfield.invariant (ap subfields_left c.into-iter-subfield-iterator.ensures.into-iter-gives)) c.in-None.ensures.steps.0
+returns g c = ends (moved c.loop-subfield.invariant (ap subfields_left c.into_iter-subfield-iterator.ensures.into_iter_gives)) c.in-None.ensures.steps.0

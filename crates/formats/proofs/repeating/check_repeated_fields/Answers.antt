@@ -22,7 +22,7 @@ loop-field-preserved g c =
 
 pub returns-then-seen-tag : goal.returns-then-seen-tag
 returns-then-seen-tag g c =
-    comes_again (moved c.loop-field.invariant (ap fields_left c.into-iter-field-iterator.ensures.into-iter-gives)) c.in-Some.ensures.steps c.if-not-is_tag_once.ensures (once_small (g.F.Format.lawful c.args.format.now) _ c.if-not-is_tag_once.ensures) c.if-seen-tag.true
+    comes_again (moved c.loop-field.invariant (ap fields_left c.into_iter-field-iterator.ensures.into_iter_gives)) c.in-Some.ensures.steps c.if-not-is_tag_once.ensures (once_small (g.F.Format.lawful c.args.format.now) _ c.if-not-is_tag_once.ensures) c.if-seen-tag.true
 
 pub returns : goal.returns
-returns g c = ends (moved c.loop-field.invariant (ap fields_left c.into-iter-field-iterator.ensures.into-iter-gives)) c.in-None.ensures.steps.0
+returns g c = ends (moved c.loop-field.invariant (ap fields_left c.into_iter-field-iterator.ensures.into_iter_gives)) c.in-None.ensures.steps.0

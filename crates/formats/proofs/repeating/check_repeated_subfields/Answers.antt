@@ -14,7 +14,7 @@ loop-field-preserved g c = passes c.loop-field.invariant c.in-Some.ensures.steps
 pub returns-in_err-check_repeated_held : goal.returns-in_err-check_repeated_held
 returns-in_err-check_repeated_held g c =
     returned _ _ c.from_residual.ensures.1
-    ∙ stops (moved c.loop-field.invariant (ap fields_left c.into-iter-field-iterator.ensures.into-iter-gives)) c.in-Some.ensures.steps c.in_err-check_repeated_held.ensures
+    ∙ stops (moved c.loop-field.invariant (ap fields_left c.into_iter-field-iterator.ensures.into_iter_gives)) c.in-Some.ensures.steps c.in_err-check_repeated_held.ensures
 
 pub returns : goal.returns
-returns g c = ends (moved c.loop-field.invariant (ap fields_left c.into-iter-field-iterator.ensures.into-iter-gives)) c.in-None.ensures.steps.0
+returns g c = ends (moved c.loop-field.invariant (ap fields_left c.into_iter-field-iterator.ensures.into_iter_gives)) c.in-None.ensures.steps.0
