@@ -5,12 +5,12 @@ mod files;
 mod showing;
 mod words;
 
-use anyhow::anyhow;
 use checking::Checking;
 use copying::copy_export;
 use files::visit_files;
 use showing::Showing;
 use std::env::Args;
+use std::process::ExitCode;
 use std::{env, io};
 
 const USAGE: &str = "usage: ibermarc21 check FILE... | show FILE... | copy FILE TO";
@@ -58,7 +58,7 @@ fn copy(rt: &HostRuntime, mut files: Args) -> io::Result<bool> {
     }
 }
 
-fn main(rt: HostRuntime) -> anyhow::Result<()> {
+fn main(rt: HostRuntime) -> io::Result<ExitCode> {
     let mut args = env::args(&rt)?;
     let _ = args.next();
     let command = match args.next() {
@@ -69,19 +69,19 @@ fn main(rt: HostRuntime) -> anyhow::Result<()> {
         Some(command) => finish(&rt, command.run(&rt, args)),
         None => {
             eprintln!(rt; "{USAGE}")?;
-            Err(USAGE.into())
+            Ok(ExitCode::FAILURE)
         }
     }
 }
 
 // How the program ends after a command.
-fn finish(rt: &HostRuntime, done: io::Result<bool>) -> anyhow::Result<()> {
+fn finish(rt: &HostRuntime, done: io::Result<bool>) -> io::Result<ExitCode> {
     match done {
-        Ok(true) => Ok(()),
-        Ok(false) => Err(anyhow!("an export was not read to its end, or not copied")),
+        Ok(true) => Ok(ExitCode::SUCCESS),
+        Ok(false) => Ok(ExitCode::FAILURE),
         Err(error) => {
             eprintln!(rt; "ibermarc21: {error}")?;
-            Err(error.into())
+            Ok(ExitCode::FAILURE)
         }
     }
 }

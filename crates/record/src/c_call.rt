@@ -1,4 +1,4 @@
-// The frame check for load programs written in C.
+// The frame check as load programs written in C call it, through the crate record_c.
 ghost use Rattle.std.specs.Prelude.{◌≡◌, ◌+◌, ◌*◌, ◌<◌};
 ghost use Rattle.record.specs.Frame.{frame_faults};
 ghost use Rattle.record.specs.Told.{Readable, told};
@@ -7,8 +7,7 @@ use crate::faults::Values;
 use crate::frame::check;
 
 // 0 where the frame holds, or else the refusal's number times 100,000 plus its place.
-#[unsafe(no_mangle)]
-pub extern "C" fn ibermarc21_frame_check(record: &[u8]) -> u64
+pub fn ibermarc21_frame_check(record: &[u8]) -> u64
     ensures answer { result ≡ told (frame_faults «record».now) }
     ensures readable { Readable (frame_faults «record».now) result }
 {
