@@ -1,5 +1,5 @@
 -- A record that is read and written anew keeps its bytes. Assumes nothing.
-use Rattle.std.proofs.Common.{◌≡◌, ℕ, ◌+◌, ◌≤◌, List, ◌++◌, map, length, drop, Ok, Err, sym, ap, ◌∙◌, arith, length-append}
+use Rattle.std.proofs.Common.{◌≡◌, ℕ, ◌≤◌, List, ◌++◌, map, length, drop, Ok, Err, sym, ap, ◌∙◌, arith, length-append}
 use Rattle.record.specs.declared.extent.Extent.{Extent}
 use Rattle.record.specs.declared.reading.Record.{Record}
 use Rattle.record.specs.declared.writing.WriteFault.{WriteFault}

@@ -111,29 +111,15 @@ fn hex_digit(n: u8) -> u8 {
 mod tests {
     use super::record_text;
     use record::reading::read;
-    use std::test::Fail;
 
     // 001 with a blank, 003 with no byte but its 1E, and 245 with an empty $a, $b with bytes above 7E and below 20, and an empty $c.
     #[test]
-    fn a_record_as_people_read_it(rt: HostRuntime) -> Result<(), Fail> {
+    fn a_record_as_people_read_it(rt: HostRuntime) {
         let record =
             b"00081nam  2200061   4500001000400000003000100004245001400005\x1ea 1\x1e\x1e10\x1fa\x1fbA\xc3\xb1\x1b\n\x1fc\x1e\x1d";
         let text = b"LDR 00081nam##2200061###4500\n001 a 1\n003 \n245 10 $a$bA\xc3\xb1<1B><0A>$c\n";
-        match read(record) {
-            Ok(parts) => match record_text(rt.alloc(), parts) {
-                Ok(shown) => {
-                    assert!(rt; shown.as_slice() == text);
-                    Ok(())
-                },
-                Err(_) => {
-                    assert!(rt; false);
-                    Ok(())
-                },
-            },
-            Err(_) => {
-                assert!(rt; false);
-                Ok(())
-            },
-        }
+        let parts = read(record).expect(&rt, "the frame holds");
+        let shown = record_text(rt.alloc(), parts).expect(&rt, "there is memory");
+        assert!(rt; shown.as_slice() == text.as_slice());
     }
 }

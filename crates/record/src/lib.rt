@@ -1,4 +1,5 @@
 // Records of the exchange format ISO 2709, as IBERMARC and MARC 21 use it. To be read in this order.
+#![tactic(auto)]
 
 // Bytes and figures.
 pub mod classes;

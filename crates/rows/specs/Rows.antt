@@ -1,5 +1,5 @@
 -- A format by its rows: eight leader sets, and a row for each tag. Which table they mean. Assumes nothing.
-use Rattle.std.specs.Prelude.{ℕ, ◌-◌, Bool, cond, ◌&&◌, List, [], ◌∷◌, map, ◌==◌, nat_le, slice_index_or}
+use Rattle.std.specs.Prelude.{ℕ, ◌-◌, cond, ◌&&◌, List, [], ◌∷◌, map, ◌==◌, nat_le, slice_index_or}
 use Rattle.std.specs.Borrow.{Bor}
 use Rattle.record.specs.Classes.{code_position}
 use Rattle.rows.specs.declared.occurs.Occurs.{Occurs}

@@ -1,5 +1,5 @@
 -- The shipped formats, bibliographic and authority. Source and target are alike except where `either` tells them apart. Assumes nothing.
-use Rattle.std.specs.Prelude.{ℕ, List, [], ◌∷◌, ◌++◌, map, codes}
+use Rattle.std.specs.Prelude.{ℕ, [], ◌∷◌, ◌++◌, map, codes}
 use Prim.Native.String.{String}
 use Rattle.rows.specs.declared.occurs.Occurs.{Occurs}
 use Rattle.rows.specs.declared.occurs.Occurs.TheVariants.{Once, Many}

@@ -1,4 +1,5 @@
 // Formats by their rows: what a row says of its tag, the check of rows, and the rows of the shipped formats.
+#![tactic(auto)]
 
 // How often a tag or a subfield may occur.
 pub mod occurs;

@@ -1,5 +1,5 @@
 -- Each turn passes a right set, or has found the first wrong one.
-use Rattle.std.proofs.Common.{◌≡◌, ◌<◌, [], get_or, Err, sym, ap, ◌∙◌, arith}
+use Rattle.std.proofs.Common.{[], get_or, Err, sym, ap, ◌∙◌, arith}
 use Rattle.std.proofs.lemmas.List.{get_or-map}
 use Rattle.record.specs.Leader.{code_positions}
 use Rattle.record.specs.Rules.{verdict}

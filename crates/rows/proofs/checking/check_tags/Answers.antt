@@ -1,5 +1,4 @@
 -- Each turn passes a right tag, or has found the first wrong one.
-use Rattle.std.proofs.Common.{refl}
 use Rattle.rows.proofs.Steps.{tags_begin, tags_end, tags_on, tags_stop}
 use Rattle.rows.proofs.checking.check_tags.Goals as goal
 
