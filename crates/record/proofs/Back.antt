@@ -1,7 +1,7 @@
 -- The frame of what is laid out from well-formed parts holds. Assumes nothing.
 use Rattle.std.proofs.Common.{◌≡◌, ℕ, zero, suc, ◌+◌, ◌*◌, ◌<◌, ◌≤◌, true, List, [], ◌∷◌, map, length, get_or, take, sym, refl, ap, ◌∙◌, arith, length-append}
 use lib.ListN.{length-map}
-use Rattle.std.specs.List.{AllByRecursion as All}
+use Rattle.std.specs.List.{AllByRecursion}
 use Rattle.std.proofs.ByRecursion.{All-get_or}
 use Rattle.std.proofs.lemmas.List.{get_or-map, length_push, take_at}
 use Rattle.std.proofs.lemmas.Bool.{and_from, eq-eqb, le-leb}
@@ -29,7 +29,7 @@ field_fits (Control tag bs) (low, high, text) h =
 field_fits (Data tag i j ss) (low, high, first, second, some, ok) h =
     record { some_tag = omega arith; small_tag = omega arith; some_size = omega arith; small_size = omega arith }
 
-fields_fit : (fs : List Field) → All FormedField fs → All (λ f. length (field_laid f) ≤ 9999) fs → All Fits (map extent fs)
+fields_fit : (fs : List Field) → AllByRecursion FormedField fs → AllByRecursion (λ f. length (field_laid f) ≤ 9999) fs → AllByRecursion Fits (map extent fs)
 fields_fit [] ok h = tt
 fields_fit (f ∷ fs) ok h = (field_fits f ok.0 h.0, fields_fit fs ok.1 h.1)
 

@@ -1,6 +1,6 @@
 -- A record whose frame holds is well-formed parts, laid out. Assumes nothing.
 use Rattle.std.proofs.Common.{◌≡◌, ℕ, zero, suc, ◌+◌, ◌-◌, ◌*◌, ◌^◌, ◌<◌, ◌≤◌, true, ◌&&◌, eqb, ltb, List, [], ◌∷◌, ◌++◌, map, length, get_or, take, drop, sym, refl, ap, ◌∙◌, append_assoc, add-zero, zero-add, arith, lit<, length-append, length-drop, take-add}
-use Rattle.std.specs.List.{AllByRecursion as All}
+use Rattle.std.specs.List.{AllByRecursion}
 use Rattle.std.proofs.lemmas.List.{drop_all, drop-drop, drop_more}
 use Rattle.std.proofs.lemmas.Bool.{and_parts, eqb-true, ltb-true}
 use Rattle.record.specs.declared.faults.FrameFault.TheVariants as fault
@@ -84,8 +84,8 @@ record Listed (bs : List ℕ) (k : ℕ) : Type 0 where
 -- the fields from field k on, with their entries and their bytes
 record Fields (bs : List ℕ) (k : ℕ) : Type 0 where
   pub fields : List Field
-  pub formed : All FormedField fields
-  pub fit : All (λ f. length (field_laid f) ≤ 9999) fields
+  pub formed : AllByRecursion FormedField fields
+  pub fit : AllByRecursion (λ f. length (field_laid f) ≤ 9999) fields
   pub count : k + length (map extent fields) ≡ entry_count bs
   pub listed : drop (entry_place k) bs ≡ directory (sizes_before bs k) (map extent fields) ++ drop (entry_place (entry_count bs)) bs
   pub laid : drop (field_place bs k) bs ≡ fields_laid fields ++ (29 ∷ [])
@@ -116,7 +116,7 @@ module _ (bs : List ℕ) (w : Whole bs) where
       let three : part bs 17 3 ≡ take 3 (drop 5 (codes_of bs)) = part_bytes bs 17 3 (omega arith) in
       (rw (five, three) at leader_parts) ∙ sym (simp append_assoc)
 
-  codes_are : All (λ c. code_character c ≡ true) (codes_of bs)
+  codes_are : AllByRecursion (λ c. code_character c ≡ true) (codes_of bs)
   codes_are = (w.position 5 (lit< tt), (w.position 6 (lit< tt), (w.position 7 (lit< tt), (w.position 8 (lit< tt), (w.position 9 (lit< tt), (w.position 17 (lit< tt), (w.position 18 (lit< tt), (w.position 19 (lit< tt), tt))))))))
 
   entry_back : (k : ℕ) → k < entry_count bs → Listed bs k

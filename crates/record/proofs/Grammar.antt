@@ -1,6 +1,6 @@
 -- The bytes of a well-formed field follow the rule for their place. Assumes nothing.
 use Rattle.std.proofs.Common.{◌≡◌, ℕ, zero, suc, ◌+◌, ◌-◌, ◌<◌, Bool, true, false, cond, not, ◌||◌, eqb, ltb, List, [], ◌∷◌, ◌++◌, length, get_or, refl, ap, ◌∙◌, ⊎_elim, append_assoc, arith}
-use Rattle.std.specs.List.{AllByRecursion as All}
+use Rattle.std.specs.List.{AllByRecursion}
 use Rattle.std.proofs.ByRecursion.{All-append, All-get_or, All-weaker}
 use Rattle.std.proofs.lemmas.List.{get_or_append_left, get_or_push, length_push}
 use Rattle.std.proofs.lemmas.Bool.{and_from, cases_lt, cond-false, cond-true, eq-eqb, le-ltb, lt-ltb, ne_eqb, not_from_false, or_left, or_right}
@@ -16,7 +16,7 @@ use Rattle.record.specs.Parts.Field.{Control, Data}
 abbrev closes : (ℕ → Bool) → List ℕ → ℕ → Bool
 closes barred field i = cond (last field i) (eqb (get_or field i 0) 30) (not (barred (get_or field i 0)))
 
-closed : (barred : ℕ → Bool) (xs : List ℕ) → All (λ b. barred b ≡ false) xs → (i : ℕ) → i < length (xs ++ (30 ∷ [])) → closes barred (xs ++ (30 ∷ [])) i ≡ true
+closed : (barred : ℕ → Bool) (xs : List ℕ) → AllByRecursion (λ b. barred b ≡ false) xs → (i : ℕ) → i < length (xs ++ (30 ∷ [])) → closes barred (xs ++ (30 ∷ [])) i ≡ true
 closed barred xs free i h =
     let n = length_push xs 30 in
     ⊎_elim
@@ -58,12 +58,12 @@ coded_text : (bs rest : List ℕ) → Text bs → Coded rest → Coded (bs ++ re
 coded_text [] rest text ok = ok
 coded_text (b ∷ bs) rest text ok = (or_left _ _ (not_from_false _ (text_31 b text.0)), coded_text bs rest text.1 ok)
 
-coded_subfields : (ss : List Subfield) → All FormedSubfield ss → Coded (subfields_laid ss ++ (30 ∷ []))
+coded_subfields : (ss : List Subfield) → AllByRecursion FormedSubfield ss → Coded (subfields_laid ss ++ (30 ∷ []))
 coded_subfields [] ok = (refl, tt)
 coded_subfields (s ∷ ss) ok =
     rw append_assoc (ok.0.code_is, coded_text (s.code ∷ s.body) (subfields_laid ss ++ (30 ∷ [])) (subfield_text s ok.0) (coded_subfields ss ok.1))
 
-open_subfields : (ss : List Subfield) → All FormedSubfield ss → All (λ b. within 29 30 b ≡ false) (subfields_laid ss)
+open_subfields : (ss : List Subfield) → AllByRecursion FormedSubfield ss → AllByRecursion (λ b. within 29 30 b ≡ false) (subfields_laid ss)
 open_subfields [] ok = tt
 open_subfields (s ∷ ss) ok =
     (refl, All-append (λ b. within 29 30 b ≡ false) (s.code ∷ s.body) (subfields_laid ss) (All-weaker (λ b. separator b ≡ false) (λ b. within 29 30 b ≡ false) text_30 (s.code ∷ s.body) (subfield_text s ok.0)) (open_subfields ss ok.1))

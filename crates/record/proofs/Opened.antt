@@ -1,6 +1,6 @@
 -- Bytes that follow the rules of a field are a well-formed field, laid out. Assumes nothing.
 use Rattle.std.proofs.Common.{◌≡◌, ℕ, suc, ◌+◌, ◌-◌, ◌<◌, ◌≤◌, Bool, true, false, cond, not, ◌&&◌, eqb, ltb, List, [], ◌∷◌, ◌++◌, length, get_or, sym, refl, ap, ◌∙◌, append_assoc, arith}
-use Rattle.std.specs.List.{AllByRecursion as All}
+use Rattle.std.specs.List.{AllByRecursion}
 use Rattle.std.proofs.lemmas.Bool.{and_parts, both_ways, cond-true, cond-false, eq-eqb, eqb-true, le-ltb, ltb-true, ltb-false, ne_eqb, not-true}
 use Rattle.std.proofs.lemmas.Bool.Decides.{nat_tests}
 use Rattle.record.specs.Classes.{code_character, separator, subfield_code, within}
@@ -47,7 +47,7 @@ control_field tag (b ∷ bs) some small full rules =
 
 -- bytes cut at each 1F: what stands before the first, the subfields, and 1E
 data Cut : List ℕ → Type 0 where
-  pieces : (body : List ℕ) (ss : List Subfield) → Text body → All FormedSubfield ss → Cut (body ++ (subfields_laid ss ++ (30 ∷ [])))
+  pieces : (body : List ℕ) (ss : List Subfield) → Text body → AllByRecursion FormedSubfield ss → Cut (body ++ (subfields_laid ss ++ (30 ∷ [])))
 
 -- a 1F before a subfield code begins a subfield
 begin : (bs : List ℕ) → Cut bs → subfield_code (get_or bs 0 0) ≡ true → Cut (31 ∷ bs)
@@ -78,7 +78,7 @@ cut b (c ∷ bs) ends plain codes =
     (cut c bs (λ q h. ends (suc q) (omega arith)) (λ q h. plain (suc q) (omega arith)) (λ q h. codes (suc q) (omega arith)))
 
 -- bytes that begin with a 1F are subfields and 1E
-subfields : (bs : List ℕ) → Cut bs → get_or bs 0 0 ≡ 31 → (ss : List Subfield) × (1 ≤ length ss) × All FormedSubfield ss × (subfields_laid ss ++ (30 ∷ []) ≡ bs)
+subfields : (bs : List ℕ) → Cut bs → get_or bs 0 0 ≡ 31 → (ss : List Subfield) × (1 ≤ length ss) × AllByRecursion FormedSubfield ss × (subfields_laid ss ++ (30 ∷ []) ≡ bs)
 subfields _ (pieces [] [] text are) mark = absurd (omega arith)
 subfields _ (pieces [] (s ∷ ss) text are) mark = (s ∷ ss, omega arith, are, refl)
 subfields _ (pieces (c ∷ body) ss text are) mark = absurd (both_ways _ (rw mark at text.0) refl)

@@ -1,6 +1,6 @@
 -- What is laid out from a well-formed field is read as that field, with its subfields where they stand. Assumes nothing.
 use Rattle.std.proofs.Common.{◌≡◌, ℕ, ◌+◌, ◌-◌, List, [], ◌∷◌, ◌++◌, map, length, get_or, take, drop, sym, refl, ap, ◌∙◌, append_assoc, arith}
-use Rattle.std.specs.List.{AllByRecursion as All}
+use Rattle.std.specs.List.{AllByRecursion}
 use Rattle.std.proofs.lemmas.List.{drop_at, drop-drop, length_push, take_at}
 use Rattle.std.proofs.lemmas.Bool.{cond-false, cond-true, le-ltb, lt-ltb}
 use Rattle.record.specs.Figures.{part}
@@ -30,7 +30,7 @@ piece_text [] [] text = refl
 piece_text [] (s ∷ ss) text = refl
 piece_text (b ∷ bs) ss text = cond-false _ _ _ (text_31 b text.0) ∙ ap (λ l. b ∷ l) (piece_text bs ss text.1)
 
-subfields_back : (p : ℕ) (ss : List Subfield) → All FormedSubfield ss → subfields_in p (subfields_laid ss) ≡ placed p ss
+subfields_back : (p : ℕ) (ss : List Subfield) → AllByRecursion FormedSubfield ss → subfields_in p (subfields_laid ss) ≡ placed p ss
 subfields_back p [] ok = refl
 subfields_back p (s ∷ ss) ok =
     let text = s.code ∷ s.body in
@@ -68,7 +68,7 @@ reopened f ok p = ap (without_places (tag_of f)) (held_back f ok p) ∙ without_
 
 -- the subfields of a field that stands at p stand where they are placed
 module _ (bs : List ℕ) where
-  placed_stand : (p : ℕ) (ss : List Subfield) (rest : List ℕ) → drop p bs ≡ subfields_laid ss ++ rest → All (SubfieldStands bs) (placed p ss)
+  placed_stand : (p : ℕ) (ss : List Subfield) (rest : List ℕ) → drop p bs ≡ subfields_laid ss ++ rest → AllByRecursion (SubfieldStands bs) (placed p ss)
   placed_stand p [] rest at = tt
   placed_stand p (s ∷ ss) rest at =
       let whole = 31 ∷ s.code ∷ s.body in
