@@ -10,7 +10,7 @@ use Rattle.record.specs.Classes.{code_character}
 use Rattle.record.specs.Contents.{field_faults}
 use Rattle.record.specs.Extents.{extent_of, no_extent, starts, total}
 use Rattle.record.specs.Figures.{part}
-use Rattle.record.specs.Formed.{Formed, FormedField, Laid_out}
+use Rattle.record.specs.Formed.{Formed, FormedField, LaidOut}
 use Rattle.record.specs.Frame.{Framed, frame_faults}
 use Rattle.record.specs.Layout.{extent, field_laid, fields_laid, laid_length}
 use Rattle.record.specs.Parts.{Field, Parts, tag_of}
@@ -86,5 +86,5 @@ module _ (r : Parts) (ok : Formed r) where
       let sum = unbroken _ _ (eq-eqb (total es) (length bytes) right.sum) in
       skip _ long ∙ skip _ coded ∙ skip _ fit ∙ skip _ sum ∙ clear (content_faults es bytes) (length es) contents_clear
 
-pub laid_framed : (bs : List ℕ) → Laid_out bs → Framed bs
+pub laid_framed : (bs : List ℕ) → LaidOut bs → Framed bs
 laid_framed bs l = ap frame_faults l.end_to_end ∙ framed_when l.parts.codes _ _ l.formed.eight (faultless l.parts l.formed)

@@ -8,7 +8,7 @@ use Rattle.record.specs.Classes.{code_character}
 use Rattle.record.specs.Contents.{byte_rule, faults_of, field_bytes, field_faults, field_place, fields_faults}
 use Rattle.record.specs.Directory.{directory_end_rule, directory_faults, entry_faults, entry_place, entry_rule, entry_size, entry_start, entry_tag, sizes_before}
 use Rattle.record.specs.Figures.{all_digits, number, part}
-use Rattle.record.specs.Formed.{FormedField, Laid_out}
+use Rattle.record.specs.Formed.{FormedField, LaidOut}
 use Rattle.record.specs.Frame.{Framed, end_faults, frame_faults, size_faults}
 use Rattle.record.specs.declared.extent.Extent.{Extent}
 use Rattle.record.specs.Layout.{directory, entry, extent, field_laid, fields_laid, figure, laid, laid_length, layout, leader}
@@ -198,7 +198,7 @@ module _ (bs : List ℕ) (w : Whole bs) where
       let ended = next_byte bs (entry_place (entry_count bs)) 30 (omega arith) w.mark ∙ ap (λ n. 30 ∷ drop n bs) first ∙ ap (λ l. 30 ∷ l) all.laid in
       leader_back ∙ (λ i. leader (codes_of bs) (long i) (base_same i) ++ (all.listed ∙ (λ j. directory (none j) es ++ ended j)) i)
 
-pub framed_laid : (bs : List ℕ) → Framed bs → Laid_out bs
+pub framed_laid : (bs : List ℕ) → Framed bs → LaidOut bs
 framed_laid bs framed =
     let w = whole bs framed in
     let all = fields_from bs w (entry_count bs) 0 (zero-add (entry_count bs)) in

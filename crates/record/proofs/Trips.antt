@@ -86,7 +86,7 @@ module _ (r : Parts) (ok : Formed r) where
 
 -- codes, extents and bytes of parts are laid out as those parts are
 pub laid_parts : (p : Parts) (codes : List ℕ) (es : List Extent) (fs : List ℕ) → OfParts p codes es fs → laid codes es fs ≡ layout p
-laid_parts p codes es fs of = λ i. laid (of.codes_are i) (of.extents_are i) (of.contents_are i)
+laid_parts p codes _ _ of = λ i. laid (of.codes_are i) (of.extents_are i) (of.contents_are i)
 
 pub read_back : (codes : List ℕ) (es : List Extent) (fs : List ℕ) → Right codes es fs → Framed (laid codes es fs) → ReadBack codes es fs (laid codes es fs)
 read_back codes es fs ok framed = record {

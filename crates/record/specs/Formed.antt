@@ -27,7 +27,7 @@ pub record Formed (r : Parts) : Type 0 where
   pub fits : length (layout r) ≤ 99999
 
 -- the bytes are well-formed parts, end to end
-pub record Laid_out (bs : List ℕ) : Type 0 where
+pub record LaidOut (bs : List ℕ) : Type 0 where
   pub parts : Parts
   pub formed : Formed parts
   pub end_to_end : bs ≡ layout parts

@@ -1,7 +1,7 @@
 // The frame check.
 ghost use Rattle.std.specs.Prelude.{◌≡◌, ◌≤◌, length, MatchResult};
 ghost use Rattle.record.specs.Broken.{FirstBroken, NoneBroken};
-ghost use Rattle.record.specs.Formed.{Laid_out};
+ghost use Rattle.record.specs.Formed.{LaidOut};
 ghost use Rattle.record.specs.Frame.{end_rule, frame_faults, frame_of, size_rule};
 ghost use Rattle.record.specs.Rules.{verdict};
 
@@ -47,7 +47,7 @@ fn end_holds(bytes: &[u8]) -> bool
 // The frame check: the first fault, by number and then by place, or the frame where it holds.
 pub fn check(record: &[u8]) -> Result<Frame, FrameFault>
     ensures answer { result ≡ verdict (frame_faults «record».now) (frame_of «record».now) }
-    ensures laid { MatchResult result (λ _. Laid_out «record».now) (λ _. Laid_out «record».now → ⊥) }
+    ensures laid { MatchResult result (λ _. LaidOut «record».now) (λ _. LaidOut «record».now → ⊥) }
     ensures rules { MatchResult result (λ _. NoneBroken «record».now) (FirstBroken «record».now) }
 {
     first_fault(record)
