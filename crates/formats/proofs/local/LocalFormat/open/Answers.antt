@@ -4,5 +4,5 @@ use Rattle.rows.specs.Faults.{sound}
 use Rattle.rows.proofs.Passing.{bare_sound}
 use Rattle.formats.proofs.local.LocalFormat.open.Goals as goal
 
-pub invariant-of-result-2 : goal.invariant-of-result-2
-invariant-of-result-2 c = (ap sound c.bare.ensures ∙ bare_sound, tt)
+pub invariant_of-result-2 : goal.invariant_of-result-2
+invariant_of-result-2 c = record { sound = ap sound c.bare.ensures ∙ bare_sound }
