@@ -1,4 +1,4 @@
-/* The frame check of ibermarc21, for load programs. Link with librecord.a (rt staticlib record). */
+/* The frame check of ibermarc21, for load programs. Link with librecord.a (tools/c-archive). */
 #ifndef IBERMARC21_H
 #define IBERMARC21_H
 
