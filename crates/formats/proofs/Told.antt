@@ -1,12 +1,12 @@
 -- A check of a format's record: a fault of the frame comes first, then those of codes and fields, whose places stand in the record. Assumes nothing.
-use Rattle.std.proofs.Common.{◌≡◌, ℕ, ◌+◌, ◌<◌, ◌≤◌, List, [], ◌∷◌, ◌++◌, map, length, drop, Err, Ok, Result, sym, ap, ◌∙◌, subst, arith, length-append, length-drop, length-take}
+use Rattle.std.proofs.Common.{◌≡◌, ℕ, ◌<◌, List, [], ◌∷◌, ◌++◌, map, length, drop, Err, Ok, sym, ap, ◌∙◌, subst, arith, length-append, length-drop, length-take}
 use Rattle.std.specs.List.{AllByRecursion}
 use Rattle.std.proofs.ByRecursion.{All-weaker}
 use Rattle.record.specs.declared.faults.FrameFault.{FrameFault}
 use Rattle.record.specs.declared.reading.Record.{Record}
 use Rattle.record.specs.Cursors.{bytes_in, fields_in}
 use Rattle.record.specs.Frame.{Framed, frame_faults}
-use Rattle.record.specs.Layout.{field_laid, subfields_laid}
+use Rattle.record.specs.Layout.{field_laid}
 use Rattle.record.specs.Leader.{codes_of}
 use Rattle.record.specs.Parts.{Field}
 use Rattle.record.specs.Parts.Field.{Control, Data}

@@ -1,4 +1,5 @@
 // Formats: four questions about what a record may hold, and which records a format accepts. To be read in this order.
+#![tactic(auto)]
 
 // The four questions, and the formats that answer them.
 pub mod format;

@@ -1,4 +1,6 @@
 // ibermarc21: what a library network runs on its exports.
+#![tactic(auto)]
+
 mod checking;
 mod copying;
 mod files;

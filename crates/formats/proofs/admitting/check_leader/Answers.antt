@@ -1,5 +1,5 @@
 -- Each turn passes a code that is admitted, or has found the first that is not.
-use Rattle.std.proofs.Common.{◌≡◌, ℕ, ◌+◌, ◌<◌, Bool, true, false, List, get_or, Err, sym, ap, ◌∙◌}
+use Rattle.std.proofs.Common.{◌≡◌, ℕ, ◌+◌, ◌<◌, true, false, List, get_or, Err, sym, ap, ◌∙◌}
 use Rattle.record.specs.Leader.{code_positions}
 use Rattle.record.specs.Rules.{over, verdict}
 use Rattle.record.proofs.Ranges.{broken, ended, kept}

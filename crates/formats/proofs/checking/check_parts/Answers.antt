@@ -1,10 +1,8 @@
 -- Number by number: the first fault of a check is the first of all where the checks before it have none.
 use Rattle.std.proofs.Common.{◌∙◌}
-use Rattle.std.specs.List.{flat_map}
 use Rattle.record.specs.Cursors.{fields_left}
 use Rattle.record.proofs.Sequence.{failed, last}
 use Rattle.record.proofs.Verdicts.{returned}
-use Rattle.formats.specs.Faults.{indicator_faults, leader_faults, repeated_subfields, subfield_faults, tag_fault}
 use Rattle.formats.proofs.Stages.{at_fields, at_indicators, at_leader, at_repeated, at_subfields, at_tags}
 use Rattle.formats.proofs.checking.check_parts.Goals as goal
 
