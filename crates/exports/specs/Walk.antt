@@ -1,7 +1,7 @@
 -- What one step of the walk over an export gives. Assumes nothing.
 use Rattle.std.specs.Prelude.{◌≡◌, ℕ, ◌+◌, cond, List, [], ◌∷◌, ◌++◌, map, length, drop, Some, None, Ok, Err, Option, Result, nat_lt}
 use Rattle.std.specs.Iterator.{Yields}
-use Rattle.record.specs.Figures.{length-figure}
+use Rattle.record.specs.Figures.{length_figure}
 use Rattle.exports.specs.declared.walk.Offered.{Offered}
 use Rattle.exports.specs.declared.walk.Records.{Records}
 use Rattle.exports.specs.declared.walk.Stop.{Stop}
@@ -15,7 +15,7 @@ taken there (Some told) = cond (nat_lt told 5) (Err NoLength) (cond (nat_lt ther
 
 -- the length of the record that begins these bytes
 abbrev pub length_of : List ℕ → Result ℕ Unread
-length_of bs = taken (length bs) (length-figure bs)
+length_of bs = taken (length bs) (length_figure bs)
 
 -- the bytes of the export that are still to be read
 abbrev pub rest : Records → List ℕ

@@ -44,8 +44,8 @@ module _ (w n : ℕ) (fits : n < 10 ^ w) where
   pub number-figure : number (figure w n) ≡ n
   number-figure = ap number figure_digits ∙ number_digits w n fits
 
-pub length-figure : (w n : ℕ) → length (figure w n) ≡ w
-length-figure w n =
+pub length_figure : (w n : ℕ) → length (figure w n) ≡ w
+length_figure w n =
     elim (ltb n (10 ^ w)) as (λ t. length (cond t (digits w n) (replicate w 42)) ≡ w) [ true ↦ length_digits w n | false ↦ length-replicate w 42 ]
 
 -- a figure has digits where the number fits, and else none

@@ -14,7 +14,7 @@ use Rattle.record.specs.Layout.{directory, entry, figure, laid, laid_length, lea
 use Rattle.record.specs.Leader.{base, entry_count, leader_faults}
 use Rattle.record.specs.PartsFaults.{code_faults, extent_rule}
 use Rattle.record.specs.Rules.{over}
-use Rattle.record.proofs.Decimals.{all_digits-append, figure_all, length-figure, number-figure}
+use Rattle.record.proofs.Decimals.{all_digits-append, figure_all, length_figure, number-figure}
 use Rattle.record.proofs.Extents.{Fits, rule_when, starts_next, starts_within}
 use Rattle.record.proofs.Leaders.{leader_base, leader_judged, length-leader}
 
@@ -30,7 +30,7 @@ pub byte_at : (bs : List ℕ) (p : ℕ) → get_or bs p 0 ≡ get_or (drop p bs)
 byte_at bs p = ap (λ n. get_or bs n 0) (sym (add-zero p)) ∙ sym (get_or-drop p bs 0 0)
 
 pub length-entry : (e : Extent) (s : ℕ) → length (entry e s) ≡ 12
-length-entry e s = simp (length-append, length-figure)
+length-entry e s = simp (length-append, length_figure)
 
 pub length-directory : (s : ℕ) (es : List Extent) → length (directory s es) ≡ 12 * length es
 length-directory s [] = refl
@@ -114,17 +114,17 @@ module _ (codes : List ℕ) (es : List Extent) (fs : List ℕ) (eight : length c
     tag_at : e.tag < 1000 → entry_tag lay k ≡ e.tag
     tag_at h =
         ap (λ l. number (take 3 l)) (entry_at ∙ append_assoc (figure 3 e.tag) (figure 4 e.size ++ figure 5 s) more)
-        ∙ ap number (take_at (figure 3 e.tag) ((figure 4 e.size ++ figure 5 s) ++ more) 3 (length-figure 3 e.tag))
+        ∙ ap number (take_at (figure 3 e.tag) ((figure 4 e.size ++ figure 5 s) ++ more) 3 (length_figure 3 e.tag))
         ∙ number-figure 3 e.tag h
 
     size_at : e.size < 10000 → entry_size lay k ≡ e.size
     size_at h =
-        ap number (part_at lay (entry_place k) (figure 3 e.tag) (figure 4 e.size) (figure 5 s ++ more) 3 4 (entry_at ∙ simp append_assoc) (length-figure 3 e.tag) (length-figure 4 e.size))
+        ap number (part_at lay (entry_place k) (figure 3 e.tag) (figure 4 e.size) (figure 5 s ++ more) 3 4 (entry_at ∙ simp append_assoc) (length_figure 3 e.tag) (length_figure 4 e.size))
         ∙ number-figure 4 e.size h
 
     start_at : s < 100000 → entry_start lay k ≡ s
     start_at h =
-        ap number (part_at lay (entry_place k) (figure 3 e.tag ++ figure 4 e.size) (figure 5 s) more 7 5 (entry_at ∙ simp append_assoc) (simp (length-append, length-figure)) (length-figure 5 s))
+        ap number (part_at lay (entry_place k) (figure 3 e.tag ++ figure 4 e.size) (figure 5 s) more 7 5 (entry_at ∙ simp append_assoc) (simp (length-append, length_figure)) (length_figure 5 s))
         ∙ number-figure 5 s h
 
     digits_at : all_digits (part lay (entry_place k) 12) ≡ (ltb e.tag 1000 && (ltb e.size 10000 && ltb s 100000))

@@ -10,13 +10,13 @@ use Rattle.record.specs.Layout.{digits, leader}
 use Rattle.record.specs.Leader.{base, base_rule, leader_faults, length_rule}
 use Rattle.record.specs.PartsFaults.{code_faults}
 use Rattle.record.specs.Rules.{from, over, rule}
-use Rattle.record.proofs.Decimals.{digits_all, figure_digits, length-figure, number_digits}
+use Rattle.record.proofs.Decimals.{digits_all, figure_digits, length_figure, number_digits}
 
 pub length-leader : (codes : List ℕ) (len b : ℕ) → length codes ≡ 8 → length (leader codes len b) ≡ 24
 length-leader codes len b eight =
     let five : length (take 5 codes) ≡ 5 = length-take-le 5 codes (omega arith) in
     let three : length (take 3 (drop 5 codes)) ≡ 3 = length-take-le 3 (drop 5 codes) (omega (arith, length-drop 5 codes)) in
-    simp (length-append, length-figure, five, three)
+    simp (length-append, length_figure, five, three)
 
 -- a list of eight, by its elements
 by_eight : (P : List ℕ → Type 0) → ((a b c d e f g h : ℕ) → P (a ∷ b ∷ c ∷ d ∷ e ∷ f ∷ g ∷ h ∷ [])) → (cs : List ℕ) → length cs ≡ 8 → P cs

@@ -13,7 +13,7 @@ use Rattle.record.specs.Layout.{directory, entry, figure, laid, laid_length}
 use Rattle.record.specs.Leader.{base, codes_of, entry_count}
 use Rattle.record.specs.Reading.{PlacedField, contents_of, extent_read, extents_of, field_read, fields_from, fields_of, told_place}
 use Rattle.record.proofs.Clamped.{part_bytes}
-use Rattle.record.proofs.Decimals.{length-figure}
+use Rattle.record.proofs.Decimals.{length_figure}
 use Rattle.record.proofs.Extents.{starts_within}
 use Rattle.record.proofs.Laid.{Right, at_entry, base_laid, bytes_laid, count_laid, length-laid, part_at, size_laid, start_laid, tag_laid}
 
@@ -56,8 +56,8 @@ module _ (codes : List ℕ) (es : List Extent) (fs : List ℕ) (ok : Right codes
       let rest = 52 ∷ 53 ∷ 48 ∷ 48 ∷ (directory 0 es ++ (30 ∷ (fs ++ (29 ∷ [])))) in
       let five : length first ≡ 5 = length-take-le 5 codes (omega arith) in
       let three : length second ≡ 3 = length-take-le 3 (drop 5 codes) (omega (arith, length-drop 5 codes)) in
-      let a = part_at lay 0 (figure 5 len) first (between ++ (second ++ rest)) 5 5 (simp append_assoc) (length-figure 5 len) five in
-      let b = part_at lay 0 (figure 5 len ++ (first ++ between)) second rest 17 3 (simp append_assoc) (simp (length-append, length-figure, five)) three in
+      let a = part_at lay 0 (figure 5 len) first (between ++ (second ++ rest)) 5 5 (simp append_assoc) (length_figure 5 len) five in
+      let b = part_at lay 0 (figure 5 len ++ (first ++ between)) second rest 17 3 (simp append_assoc) (simp (length-append, length_figure, five)) three in
       (a, b)
 
   pub codes_back : codes_of lay ≡ codes
@@ -91,5 +91,5 @@ module _ (codes : List ℕ) (es : List Extent) (fs : List ℕ) (ok : Right codes
     entry_back =
         let start : starts es k ≡ told_place lay k - base lay = omega (arith, start_laid codes es fs ok k within) in
         ap (take 12) (at_entry codes es fs ok k within)
-        ∙ take_at (entry (extent_of es k) (starts es k)) _ 12 (simp (length-append, length-figure))
+        ∙ take_at (entry (extent_of es k) (starts es k)) _ 12 (simp (length-append, length_figure))
         ∙ (λ i. entry (record { tag = sym (tag_laid codes es fs ok k within) i; size = sym (size_laid codes es fs ok k within) i }) (start i))

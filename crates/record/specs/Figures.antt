@@ -19,5 +19,5 @@ abbrev pub part : List ℕ → ℕ → ℕ → List ℕ
 part bs p n = take n (drop p bs)
 
 -- the number in the first five bytes, where they are five digits
-abbrev pub length-figure : List ℕ → Option ℕ
-length-figure bs = cond (nat_le 5 (length bs) && all_digits (part bs 0 5)) (Some (number (part bs 0 5))) None
+abbrev pub length_figure : List ℕ → Option ℕ
+length_figure bs = cond (nat_le 5 (length bs) && all_digits (part bs 0 5)) (Some (number (part bs 0 5))) None

@@ -1,13 +1,13 @@
 // Figures: numbers written in decimal digits.
 ghost use Rattle.std.specs.Prelude.{◌≡◌, ◌+◌, ◌*◌, ◌^◌, ◌<◌, ◌≤◌, length};
-ghost use Rattle.record.specs.Figures.{all_digits, length-figure, number, part};
+ghost use Rattle.record.specs.Figures.{all_digits, length_figure, number, part};
 
 use crate::classes::is_digit;
 use crate::slices::part_of;
 
 // The length that a record tells in its first five bytes, or none where they are not five digits.
 pub fn told_length(bytes: &[u8]) -> Option<usize>
-    ensures { result ≡ length-figure bytes.now }
+    ensures { result ≡ length_figure bytes.now }
 {
     if bytes.len() >= 5 && is_figure_at(bytes, 0, 5) {
         Some(number_at(bytes, 0, 5))
