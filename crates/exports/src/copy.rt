@@ -72,3 +72,27 @@ fn extents_of(heap: Global, parts: Record<'_>) -> Result<Vec<Extent>, AllocError
     }
     Ok(extents)
 }
+
+#[cfg(test)]
+mod tests {
+    use super::{Uncopied, copy_record};
+    use record::examples::record_a;
+    use record::faults::FrameFault;
+    use record::writing::WriteFault;
+
+    // Record A, and the two bytes past it as they were; then record A with x for the 1F at byte 39, which leaves the buffer alone.
+    #[test]
+    fn record_a_is_copied(rt: HostRuntime) {
+        let a = *record_a();
+        let mut out = [b'-'; 48];
+        assert_eq!(rt; copy_record(rt.alloc(), &a, &mut out), Ok(46));
+        assert!(rt; out[0..46] == a[0..46]);
+        assert!(rt; out[46..48] == [b'-'; 2][0..2]);
+        let mut no_mark = a;
+        no_mark[39] = b'x';
+        let mut kept = [b'-'; 48];
+        let refused = Uncopied::Refused(WriteFault::Frame(FrameFault::Field { place: 39 }));
+        assert_eq!(rt; copy_record(rt.alloc(), &no_mark, &mut kept), Err(refused));
+        assert!(rt; kept == [b'-'; 48]);
+    }
+}
