@@ -1,7 +1,8 @@
 -- How a loop over a range finds the first fault of a list of rules, what a range without faults says, and when two ranges have the same first fault. Assumes nothing.
-use Rattle.std.proofs.Common.{◌≡◌, ℕ, zero, suc, ◌+◌, ◌-◌, ◌<◌, ◌≤◌, Bool, true, false, List, [], ◌∷◌, ◌++◌, Err, sym, refl, ap, ◌∙◌, subst, add-zero, zero-add, add-one, arith}
+use Rattle.std.proofs.Common.{◌≡◌, ℕ, zero, suc, ◌+◌, ◌-◌, ◌<◌, ◌≤◌, Bool, true, false, List, [], ◌∷◌, ◌++◌, Option, Some, None, Ok, Err, sym, refl, ap, ◌∙◌, subst, add-zero, zero-add, add-one, arith}
+use Rattle.std.specs.Option.{MatchOption}
 use Rattle.record.specs.Rules.{rule, from, over, verdict}
-use Rattle.record.proofs.Verdicts.{alike, first, parts, skip}
+use Rattle.record.proofs.Verdicts.{alike, first, parts, skip, unbroken}
 
 module _ {F : Type 0} (G : ℕ → List F) (a b : ℕ) where
   pub next : a < b → over G a b ≡ G a ++ over G (a + 1) b
@@ -75,3 +76,33 @@ pub agree : {F X : Type 0} (G H : ℕ → List F) (x : X) (n : ℕ) → ((k : �
 agree G H x n h =
     agree_from G H x 0 (n - 0) (λ k l before.
     rw zero-add (h k (omega arith) (λ j m. rw zero-add at (before j m))))
+
+-- the rule at p is the first of a range that is broken
+first_from : {F X : Type 0} (G : ℕ → List F) (f : F) (x : X) (a n p : ℕ) → p < n → G (a + p) ≡ f ∷ [] → ((k : ℕ) → k < p → G (a + k) ≡ []) → Err f ≡ verdict (from G a n) x
+unfolding from
+first_from G f x a zero p h here before = absurd (omega arith)
+first_from G f x a (suc n) zero h here before = let e : G a ≡ f ∷ [] = rw add-zero at here in ap (λ l. verdict (l ++ from G (suc a) n) x) (sym e)
+first_from G f x a (suc n) (suc p) h here before =
+    let q : a + suc p ≡ suc a + p = omega arith in
+    first_from G f x (suc a) n p (omega arith) (rw q at here) (λ k l. let r : a + suc k ≡ suc a + k = omega arith in rw r at (before (suc k) (omega arith)))
+    ∙ ap (λ l. verdict l x) (sym (skip _ (rw add-zero at (before 0 (omega arith)))))
+
+-- what a search from 0 up to n gave: the first place whose rule is broken, or none
+abbrev pub IsFirstBroken : (ℕ → Bool) → ℕ → Option ℕ → Type 0
+IsFirstBroken ok n r =
+    MatchOption r ((k : ℕ) → 0 ≤ k → k < n → ok k ≡ true)
+    (λ p. (0 ≤ p) × (p < n) × (ok p ≡ false) × ((k : ℕ) → 0 ≤ k → k < p → ok k ≡ true))
+
+-- its answer is the answer of the range
+module _ {F X : Type 0} (ok : ℕ → Bool) (fault : ℕ → F) (n : ℕ) (x : X) where
+  pub none_broken : (r : Option ℕ) → r ≡ None → IsFirstBroken ok n r → Ok x ≡ verdict (over (λ p. rule (ok p) (fault p)) 0 n) x
+  none_broken r e h =
+      let all : (k : ℕ) → 0 ≤ k → k < n → ok k ≡ true = subst (IsFirstBroken ok n) e h in
+      ap (λ l. verdict l x) (sym (clear (λ p. rule (ok p) (fault p)) n (λ k l. unbroken (ok k) (fault k) (all k (omega arith) l))))
+
+  pub first_broken : (r : Option ℕ) (p : ℕ) → r ≡ Some p → IsFirstBroken ok n r → Err (fault p) ≡ verdict (over (λ q. rule (ok q) (fault q)) 0 n) x
+  first_broken r p e h =
+      let found : (0 ≤ p) × (p < n) × (ok p ≡ false) × ((k : ℕ) → 0 ≤ k → k < p → ok k ≡ true) = subst (IsFirstBroken ok n) e h in
+      first_from (λ q. rule (ok q) (fault q)) (fault p) x 0 (n - 0) p (omega (arith, found.1))
+      (rw zero-add (ap (λ t. rule t (fault p)) found.2))
+      (λ k l. rw zero-add (unbroken (ok k) (fault k) (found.3 k (omega arith) l)))

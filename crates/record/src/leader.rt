@@ -59,10 +59,8 @@ pub(crate) fn check_leader(bytes: &[u8]) -> Result<(), FrameFault>
     requires { 24 ≤ length bytes.now }
     ensures { result ≡ verdict (leader_faults bytes.now) tt }
 {
-    for position in 0..24 {
-        if !position_holds(bytes, position) {
-            return Err(FrameFault::Leader { place: position });
-        }
+    match (0..24).find(|position| !position_holds(bytes, *position)) {
+        Some(place) => Err(FrameFault::Leader { place }),
+        None => Ok(()),
     }
-    Ok(())
 }

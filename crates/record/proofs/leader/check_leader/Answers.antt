@@ -1,22 +1,21 @@
--- The loop over the leader stops at the first position that breaks its rule.
-use Rattle.std.proofs.Common.{sym, refl, ap, ◌∙◌}
+-- The search over the leader gives the first position that breaks its rule.
+use Rattle.std.proofs.Common.{◌≡◌, true, false, rules, tests}
+use Rattle.std.proofs.lemmas.Iterator.{first_from_Range}
 use Rattle.record.specs.declared.faults.FrameFault.TheVariants.{Leader}
-use Rattle.record.specs.Rules.{verdict}
 use Rattle.record.specs.Leader.{leader_faults, leader_rule}
-use Rattle.record.proofs.Ranges.{kept, broken, ended}
+use Rattle.record.proofs.Ranges.{IsFirstBroken, first_broken, none_broken}
 use Rattle.record.proofs.leader.check_leader.Goals as goal
+use Rattle.record.proofs.leader.check_leader.Goals.{After-find}
 
-pub loop-position-init : goal.loop-position-init
+first : (c : After-find) → IsFirstBroken (leader_rule c.args.bytes.now) 24 c.find.result
+first c =
+    first_from_Range _ _ _ _ (λ p. leader_rule c.args.bytes.now p ≡ false) (λ p. leader_rule c.args.bytes.now p ≡ true) c.find.ensures.ran
+    (λ p q k. search (rules, tests)) (λ p q k. search (rules, tests))
+
+pub returns-in-Some : goal.returns-in-Some
 unfolding leader_faults
-loop-position-init c = refl
+returns-in-Some c = first_broken (leader_rule c.args.bytes.now) (λ p. Leader p) 24 tt _ _ c.in-Some.is (first (goal.at.returns-in-Some c).After-find)
 
-pub loop-position-preserved : goal.loop-position-preserved
-loop-position-preserved c =
-    c.loop-position.invariant ∙ kept (leader_rule c.args.bytes.now) (λ p. Leader p) _ 24 c.loop-position-test.true c.if-not-position_holds.ensures
-
-pub returns-then-not-position_holds : goal.returns-then-not-position_holds
-returns-then-not-position_holds c =
-    sym (ap (λ l. verdict l tt) c.loop-position.invariant ∙ broken (leader_rule c.args.bytes.now) (λ p. Leader p) _ 24 c.loop-position-test.true tt c.if-not-position_holds.ensures)
-
-pub returns : goal.returns
-returns c = sym (ap (λ l. verdict l tt) (c.loop-position.invariant ∙ ended _ _ 24 c.loop-position-test.false))
+pub returns-in-None : goal.returns-in-None
+unfolding leader_faults
+returns-in-None c = none_broken (leader_rule c.args.bytes.now) (λ p. Leader p) 24 tt _ c.in-None.is (first (goal.at.returns-in-None c).After-find)
