@@ -8,8 +8,9 @@ ghost use Rattle.exports.specs.Copies.{Copies};
 
 use record::extent::Extent;
 use record::faults::FrameFault;
+use record::parts::RecordParts;
 use record::reading::{Record, read};
-use record::writing::{WriteFault, write};
+use record::writing::WriteFault;
 use std::alloc::{AllocError, Global};
 
 // Why a record is not copied.
@@ -56,9 +57,14 @@ pub fn copy_record(heap: Global, record: &[u8], out: &mut [u8]) -> Result<usize,
     ensures copy { Copies «record».now out.old result out.new }
     ensures within { IfOk result (λ n. n ≤ length out.new) }
 {
-    let parts = read(record)?;
-    let extents = extents_of(heap, parts)?;
-    let len = write(&parts.codes(), extents.as_slice(), parts.contents(), out)?;
+    let from = read(record)?;
+    let extents = extents_of(heap, from)?;
+    let parts = RecordParts {
+        codes: from.codes(),
+        extents: extents.as_slice(),
+        fields: from.contents(),
+    };
+    let len = parts.write(out)?;
     Ok(len)
 }
 

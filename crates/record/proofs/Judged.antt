@@ -82,15 +82,14 @@ module _ (codes : List ℕ) (es : List Extent) (fs : List ℕ) (eight : length c
         ∙ ap (λ l. verdict l x) (append-nil (fields_faults lay))
         ∙ fields_judged right))))
 
--- the frame holds where the parts have no fault, and only there
+-- what parts without a fault say, and that the frame of their record holds
 module _ (codes : List ℕ) (es : List Extent) (fs : List ℕ) (eight : length codes ≡ 8) where
   pub framed_when : parts_faults codes es fs ≡ [] → Framed (laid codes es fs)
   framed_when = none_alike {X = ℕ} _ _ 0 (judged codes es fs eight 0)
 
-  pub right_when : Framed (laid codes es fs) → Right codes es fs
+  pub right_when : parts_faults codes es fs ≡ [] → Right codes es fs
   unfolding parts_faults
-  right_when framed =
-      let faultless = none_alike {X = ℕ} _ _ 0 (sym (judged codes es fs eight 0)) framed in
+  right_when faultless =
       let a = parts (length_faults es fs) _ faultless in
       let b = parts (over (code_faults codes) 0 8) _ a.1 in
       let c = parts (over (extent_faults es) 0 (length es)) _ b.1 in

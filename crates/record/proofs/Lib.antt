@@ -15,6 +15,8 @@ pub mod Forth
 pub mod Extents
 pub mod Leaders
 pub mod Laid
+pub mod Paired
+pub mod Faultless
 pub mod Judged
 pub mod Grammar
 pub mod Back

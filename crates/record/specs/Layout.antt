@@ -1,6 +1,7 @@
 -- A record laid end to end from its parts: leader, directory, 1E, fields and 1D. Assumes nothing.
 use Rattle.std.specs.Prelude.{ℕ, zero, suc, ◌+◌, ◌*◌, ◌/◌, ◌%◌, ◌^◌, cond, List, [], ◌∷◌, ◌++◌, map, length, take, drop, replicate, nat_lt}
 use Rattle.record.specs.declared.extent.Extent.{Extent}
+use Rattle.record.specs.declared.parts.RecordParts.{RecordParts}
 use Rattle.record.specs.Parts.{Field, Parts, Subfield, tag_of}
 use Rattle.record.specs.Parts.Field.{Control, Data}
 
@@ -33,6 +34,10 @@ laid_length es fs = 26 + 12 * length es + length fs
 -- eight leader codes, the extents of the fields, and the bytes of the fields end to end, laid out as a record
 unfoldable pub laid : List ℕ → List Extent → List ℕ → List ℕ
 laid codes es fs = leader codes (laid_length es fs) (25 + 12 * length es) ++ (directory 0 es ++ (30 ∷ (fs ++ (29 ∷ []))))
+
+-- the same, from the parts that a caller lends
+abbrev pub laid_from : RecordParts → List ℕ
+laid_from p = laid p.codes p.extents.now p.fields.now
 
 -- 1F, code and body of each subfield
 abbrev pub subfields_laid : List Subfield → List ℕ

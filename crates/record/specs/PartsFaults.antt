@@ -3,6 +3,7 @@ use Rattle.std.specs.Prelude.{ℕ, ◌+◌, ◌*◌, Bool, ◌&&◌, List, ◌++
 use Rattle.record.specs.declared.extent.Extent.{Extent}
 use Rattle.record.specs.declared.faults.FrameFault.{FrameFault}
 use Rattle.record.specs.declared.faults.FrameFault.TheVariants.{Length, Leader, Entry, DirectoryEnd}
+use Rattle.record.specs.declared.parts.RecordParts.{RecordParts}
 use Rattle.record.specs.Classes.{code_character, within}
 use Rattle.record.specs.Contents.{field_faults}
 use Rattle.record.specs.Directory.{entry_place}
@@ -43,3 +44,7 @@ parts_faults codes es fs =
     ++ (over (extent_faults es) 0 (length es)
     ++ (sum_faults es fs
     ++ over (content_faults es fs) 0 (length es))))
+
+-- the same, of the parts that a caller lends
+abbrev pub faults_in : RecordParts → List FrameFault
+faults_in p = parts_faults p.codes p.extents.now p.fields.now

@@ -27,5 +27,5 @@ pub mod subfields;
 
 // Writing: a record from its parts.
 mod output;
-mod parts;
+pub mod parts;
 pub mod writing;

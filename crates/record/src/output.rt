@@ -1,94 +1,86 @@
-// The parts of a record, written into a buffer that has room for them.
-ghost use Rattle.std.specs.Prelude.{◌≡◌, ℕ, ◌+◌, ◌*◌, ◌^◌, ◌<◌, ◌≤◌, true, [], ◌∷◌, length};
-ghost use Rattle.record.specs.Extents.{extent_of, starts};
-ghost use Rattle.record.specs.Layout.{digits, directory, entry, figure, laid, laid_length, leader};
-ghost use Rattle.record.specs.PartsFaults.{extent_rule};
-ghost use Rattle.record.specs.Writing.{put};
+// Parts that have no fault, and the record that they make, written into a buffer of its length.
+ghost use Rattle.std.specs.Prelude.{◌≡◌, ◌*◌, ◌^◌, ◌<◌, true, [], length};
+ghost use Rattle.record.specs.Layout.{directory, entry, figure, laid_from, laid_length, leader};
+ghost use Rattle.record.specs.PartsFaults.{extent_rule, faults_in};
 
 use crate::extent::Extent;
+use crate::parts::RecordParts;
 
-fn put_byte(out: &mut [u8], at: usize, byte: u8)
-    requires { at < length out.old }
-    ensures { out.new ≡ put out.old at (byte ∷ []) }
-{
-    out[at] = byte;
+// Parts that have no fault. `check` of `RecordParts` makes them.
+#[derive(Clone, Copy)]
+pub(crate) struct CheckedParts<'a> {
+    pub(crate) parts: RecordParts<'a>,
+    ghost faultless: { faults_in parts ≡ [] },
 }
 
-fn put_bytes(out: &mut [u8], at: usize, bytes: &[u8])
-    requires { at + length bytes.now ≤ length out.old }
-    ensures { out.new ≡ put out.old at bytes.now }
-{
-    out[at..at + bytes.len()].copy_from_slice(bytes);
-}
-
-// Writes a number in so many digits.
-fn put_digits(out: &mut [u8], at: usize, size: usize, n: usize)
-    requires { at + size ≤ length out.old }
-    ensures { out.new ≡ put out.old at (digits size n) }
-{
-    if size > 0 {
-        put_digits(out, at, size - 1, n / 10);
-        put_byte(out, at + size - 1, b'0' + (n % 10) as u8);
+impl CheckedParts<'_> {
+    // The length of the record.
+    pub(crate) fn len(&self) -> usize
+        ensures { result ≡ laid_length self.now.parts.extents.now self.now.parts.fields.now }
+    {
+        26 + 12 * self.parts.extents.len() + self.parts.fields.len()
     }
-}
 
-// Writes a figure that has room for its number.
-fn put_figure(out: &mut [u8], at: usize, size: usize, n: usize)
-    requires { (at + size ≤ length out.old) × (n < 10 ^ size) }
-    ensures { out.new ≡ put out.old at (figure size n) }
-{
-    put_digits(out, at, size, n);
-}
+    // Writes the record.
+    pub(crate) fn put(&self, out: &mut [u8])
+        requires { length out.old ≡ laid_length self.now.parts.extents.now self.now.parts.fields.now }
+        ensures { out.new ≡ laid_from self.now.parts }
+    {
+        let len = out.len();
+        let base = 25 + 12 * self.parts.extents.len();
+        put_leader(&mut out[..24], &self.parts.codes, len, base);
+        self.put_directory(&mut out[24..base - 1]);
+        out[base - 1] = 0x1e;
+        out[base..len - 1].copy_from_slice(self.parts.fields);
+        out[len - 1] = 0x1d;
+    }
 
-// Writes a directory entry.
-fn put_entry(out: &mut [u8], at: usize, extent: Extent, start: usize)
-    requires { (at + 12 ≤ length out.old) × (extent_rule extent start ≡ true) }
-    ensures { out.new ≡ put out.old at (entry extent start) }
-{
-    put_figure(out, at, 3, usize::from(extent.tag));
-    put_figure(out, at + 3, 4, extent.size);
-    put_figure(out, at + 7, 5, start);
-}
-
-// Writes the directory entries.
-fn put_directory(out: &mut [u8], at: usize, extents: &[Extent])
-    requires room { at + 12 * length extents.now ≤ length out.old }
-    requires right { (k : ℕ) → k < length extents.now → extent_rule (extent_of extents.now k) (starts extents.now k) ≡ true }
-    ensures { out.new ≡ put out.old at (directory 0 extents.now) }
-{
-    let mut place = at;
-    let mut start = 0;
-    for extent in extents {
-        put_entry(out, place, *extent, start);
-        place += 12;
-        start += extent.size;
+    // Writes the directory entries.
+    fn put_directory(&self, out: &mut [u8])
+        requires { length out.old ≡ 12 * length self.now.parts.extents.now }
+        ensures { out.new ≡ directory 0 self.now.parts.extents.now }
+    {
+        let mut start = 0;
+        for (k, extent) in self.parts.extents.iter().enumerate() {
+            put_entry(&mut out[12 * k..12 * k + 12], *extent, start);
+            start += extent.size;
+        }
     }
 }
 
 // Writes the leader of a record of this length, with this base.
 fn put_leader(out: &mut [u8], codes: &[u8; 8], len: usize, base: usize)
-    requires { (24 ≤ length out.old) × ((len < 100000) × (base < 100000)) }
-    ensures { out.new ≡ put out.old 0 (leader codes.now len base) }
+    requires room { length out.old ≡ 24 }
+    requires short_length { len < 100000 }
+    requires short_base { base < 100000 }
+    ensures { out.new ≡ leader codes.now len base }
 {
-    put_figure(out, 0, 5, len);
-    put_bytes(out, 5, &codes[0..5]);
-    put_bytes(out, 10, b"22");
-    put_figure(out, 12, 5, base);
-    put_bytes(out, 17, &codes[5..8]);
-    put_bytes(out, 20, b"4500");
+    put_figure(&mut out[0..5], len);
+    out[5..10].copy_from_slice(&codes[0..5]);
+    out[10..12].copy_from_slice(b"22");
+    put_figure(&mut out[12..17], base);
+    out[17..20].copy_from_slice(&codes[5..8]);
+    out[20..24].copy_from_slice(b"4500");
 }
 
-// Writes a record whose parts have no fault.
-pub(crate) fn put_record(out: &mut [u8], codes: &[u8; 8], extents: &[Extent], fields: &[u8])
-    requires room { (laid_length extents.now fields.now ≤ length out.old) × (laid_length extents.now fields.now ≤ 99999) }
-    requires right { (k : ℕ) → k < length extents.now → extent_rule (extent_of extents.now k) (starts extents.now k) ≡ true }
-    ensures { out.new ≡ put out.old 0 (laid codes.now extents.now fields.now) }
+// Writes a directory entry.
+fn put_entry(out: &mut [u8], extent: Extent, start: usize)
+    requires room { length out.old ≡ 12 }
+    requires right { extent_rule extent start ≡ true }
+    ensures { out.new ≡ entry extent start }
 {
-    let base = 25 + 12 * extents.len();
-    let end = base + fields.len();
-    put_leader(out, codes, end + 1, base);
-    put_directory(out, 24, extents);
-    put_byte(out, base - 1, 0x1e);
-    put_bytes(out, base, fields);
-    put_byte(out, end, 0x1d);
+    put_figure(&mut out[0..3], usize::from(extent.tag));
+    put_figure(&mut out[3..7], extent.size);
+    put_figure(&mut out[7..12], start);
+}
+
+// Writes a number in decimal digits that fill these bytes.
+fn put_figure(out: &mut [u8], n: usize)
+    requires { n < 10 ^ length out.old }
+    ensures { out.new ≡ figure (length out.old) n }
+{
+    if let Some((last, rest)) = out.split_last_mut() {
+        *last = b'0' + (n % 10) as u8;
+        put_figure(rest, n / 10);
+    }
 }

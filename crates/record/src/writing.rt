@@ -1,17 +1,15 @@
 // Writing a record from its parts.
 ghost use Rattle.std.specs.Prelude.{◌≡◌, true, length, take, IfOk, IfErr};
 ghost use Rattle.record.specs.Formed.{Formed};
-ghost use Rattle.record.specs.Layout.{laid, layout};
+ghost use Rattle.record.specs.Layout.{laid_from, layout};
 ghost use Rattle.record.specs.Parts.{Parts};
 ghost use Rattle.record.specs.Rules.{verdict};
 ghost use Rattle.record.specs.Trips.{OfParts, ReadBack};
 ghost use Rattle.record.specs.declared.writing.WriteFault.TheVariants.{Frame};
 ghost use Rattle.record.specs.Writing.{left_by, room_for, write_faults, write_number, write_values};
 
-use crate::extent::Extent;
 use crate::faults::{FrameFault, Layer, Values};
-use crate::output::put_record;
-use crate::parts::check_parts;
+use crate::parts::RecordParts;
 
 // Why a record is not written.
 #[derive(Clone, Copy, Debug, PartialEq, Eq)]
@@ -50,25 +48,23 @@ impl From<FrameFault> for WriteFault {
     }
 }
 
-// Writes the record that eight leader codes, the extents of its fields and their bytes end to end make, and tells its length.
-pub fn write(
-    codes: &[u8; 8],
-    extents: &[Extent],
-    fields: &[u8],
-    out: &mut [u8],
-) -> Result<usize, WriteFault>
-    ensures answer { result ≡ verdict (write_faults (laid codes.now extents.now fields.now) out.old) (length (laid codes.now extents.now fields.now)) }
-    ensures buffer { out.new ≡ left_by result (laid codes.now extents.now fields.now) out.old }
-    ensures numbers { IfErr result (λ f. write_number (write_values f).number ≡ true) }
-    ensures formed { (p : Parts) → Formed p → OfParts p codes.now extents.now fields.now → result ≡ room_for (layout p) out.old }
-    ensures read_back { IfOk result (λ n. ReadBack codes.now extents.now fields.now (take n out.new)) }
-{
-    let len = check_parts(codes, extents, fields)?;
-    if out.len() < len {
-        return Err(WriteFault::ShortBuffer);
+impl RecordParts<'_> {
+    // Writes the record that the parts make, and tells its length.
+    pub fn write(&self, out: &mut [u8]) -> Result<usize, WriteFault>
+        ensures answer { result ≡ verdict (write_faults (laid_from self.now) out.old) (length (laid_from self.now)) }
+        ensures buffer { out.new ≡ left_by result (laid_from self.now) out.old }
+        ensures numbers { IfErr result (λ f. write_number (write_values f).number ≡ true) }
+        ensures formed { (p : Parts) → Formed p → OfParts p self.now.codes self.now.extents.now self.now.fields.now → result ≡ room_for (layout p) out.old }
+        ensures read_back { IfOk result (λ n. ReadBack self.now.codes self.now.extents.now self.now.fields.now (take n out.new)) }
+    {
+        let checked = self.check()?;
+        let len = checked.len();
+        if out.len() < len {
+            return Err(WriteFault::ShortBuffer);
+        }
+        checked.put(&mut out[..len]);
+        Ok(len)
     }
-    put_record(out, codes, extents, fields);
-    Ok(len)
 }
 
 #[cfg(test)]

@@ -1,0 +1,5 @@
+use Rattle.std.proofs.Common.{length}
+use Rattle.record.proofs.output.+put_figure.Given as goal
+
+abbrev pub decreases-put_figure : goal.decreases-put_figure
+decreases-put_figure l = length l.out.now
