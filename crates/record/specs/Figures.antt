@@ -18,6 +18,10 @@ number bs = number_from 0 bs
 abbrev pub part : List ℕ → ℕ → ℕ → List ℕ
 part bs p n = take n (drop p bs)
 
+-- the number that bytes tell, where all of them are digits
+abbrev pub figure_told : List ℕ → Option ℕ
+figure_told bs = cond (all_digits bs) (Some (number bs)) None
+
 -- the number in the first five bytes, where they are five digits
 abbrev pub length_figure : List ℕ → Option ℕ
 length_figure bs = cond (nat_le 5 (length bs) && all_digits (part bs 0 5)) (Some (number (part bs 0 5))) None
