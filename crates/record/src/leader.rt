@@ -27,8 +27,7 @@ fn length_holds(bytes: &[u8]) -> bool
 fn base_holds(bytes: &[u8]) -> bool
     ensures { result ≡ base_rule bytes.now }
 {
-    figure_at(bytes, 12, 5)
-        .is_some_and(|base| base >= 25 && base % 12 == 1 && base < bytes.len())
+    figure_at(bytes, 12, 5).is_some_and(|base| base >= 25 && base % 12 == 1 && base < bytes.len())
 }
 
 // Whether the widths of what a directory entry has are 4, 5, 0 and 0.
