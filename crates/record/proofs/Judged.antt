@@ -1,7 +1,7 @@
 -- A record that is laid out has the first fault of its parts. Assumes nothing.
-use Rattle.std.proofs.Common.{◌≡◌, ℕ, ◌+◌, ◌-◌, ◌<◌, ◌≤◌, true, ◌&&◌, eqb, List, [], ◌++◌, length, get_or, sym, ap, ◌∙◌, append_assoc, append-nil, le_refl, arith}
+use Rattle.std.proofs.Common.{◌≡◌, ℕ, ◌+◌, ◌-◌, ◌<◌, ◌≤◌, true, ◌&&◌, eqb, List, [], ◌++◌, length, get_or, ap, ◌∙◌, append_assoc, append-nil, le_refl, arith}
 use Rattle.std.proofs.ByRecursion.{All-from_get_or}
-use Rattle.std.proofs.lemmas.Bool.{eq-eqb, eqb-true}
+use Rattle.std.proofs.lemmas.Bool.{eq-eqb}
 use Rattle.std.proofs.lemmas.Bool.Decides.{nat_tests}
 use Rattle.record.specs.declared.extent.Extent.{Extent}
 use Rattle.record.specs.declared.faults.FrameFault.TheVariants.{Length, Entry, DirectoryEnd, RecordEnd}
@@ -15,17 +15,14 @@ use Rattle.record.specs.Leader.{base, entry_count}
 use Rattle.record.specs.PartsFaults.{code_faults, content_faults, extent_faults, length_faults, parts_faults, sum_faults}
 use Rattle.record.specs.Rules.{over, rule, verdict}
 use Rattle.record.proofs.Extents.{Fits, fits_when, starts_all}
+use Rattle.record.proofs.Faultless.{faultless, fills, fits, short_enough}
 use Rattle.record.proofs.Laid.{Right, base_at, count_at, count_laid, end_laid, field_at, leader_at, length-laid, mark_at, place_laid, rule_at, sizes_at, tag_laid}
 use Rattle.record.proofs.Ranges.{agree, every}
-use Rattle.record.proofs.Sound.{between}
-use Rattle.record.proofs.Verdicts.{alike, holds, none_alike, parts}
+use Rattle.record.proofs.Verdicts.{alike, holds, none_alike}
 
--- what a length and extents without faults say
-short : (es : List Extent) (fs : List ℕ) → length_faults es fs ≡ [] → laid_length es fs ≤ 99999
-short es fs e = (between 26 99999 (laid_length es fs) (sym (holds _ _ e))).1
-
+-- extents without faults fit
 fits_of : (es : List Extent) → over (extent_faults es) 0 (length es) ≡ [] → (k : ℕ) → k < length es → Fits (extent_of es k)
-fits_of es e k h = fits_when (extent_of es k) (starts es k) (holds _ _ (every (extent_faults es) (length es) e k h))
+fits_of es e k h = fits_when (extent_of es k) (starts es k) (fits es e k h)
 
 module _ (codes : List ℕ) (es : List Extent) (fs : List ℕ) (eight : length codes ≡ 8) where
   -- parts without the faults 18 to 20
@@ -34,8 +31,8 @@ module _ (codes : List ℕ) (es : List Extent) (fs : List ℕ) (eight : length c
     eight = eight;
     codes_are = All-from_get_or (λ c. code_character c ≡ true) codes 0 (λ i h. holds _ _ (every (code_faults codes) 8 coded i (omega arith)));
     fit = All-from_get_or Fits es no_extent (fits_of es fit);
-    sum = eqb-true _ _ (holds _ _ sum);
-    short = short es fs long;
+    sum = fills es fs sum;
+    short = short_enough es fs long;
   }
 
   end_judged : laid_length es fs ≤ 99999 → over (extent_faults es) 0 (length es) ≡ [] → directory_end_faults (laid codes es fs) ≡ sum_faults es fs
@@ -73,10 +70,10 @@ module _ (codes : List ℕ) (es : List Extent) (fs : List ℕ) (eight : length c
         let lay = laid codes es fs in
         let entries = over (entry_faults lay) 0 (entry_count lay) in
         alike _ _ _ _ x (ap (λ n. verdict (rule (within 26 99999 n) Length) x) (length-laid codes es fs eight)) (λ long.
-        alike _ _ _ _ x (ap (λ l. verdict l x) (leader_at codes es fs eight (short es fs long))) (λ coded.
+        alike _ _ _ _ x (ap (λ l. verdict l x) (leader_at codes es fs eight (short_enough es fs long))) (λ coded.
         ap (λ l. verdict l x) (append_assoc entries (directory_end_faults lay) (fields_faults lay ++ end_faults lay))
-        ∙ alike _ _ _ _ x (entries_judged (short es fs long)) (λ fit.
-        alike _ _ _ _ x (ap (λ l. verdict l x) (end_judged (short es fs long) fit)) (λ sum.
+        ∙ alike _ _ _ _ x (entries_judged (short_enough es fs long)) (λ fit.
+        alike _ _ _ _ x (ap (λ l. verdict l x) (end_judged (short_enough es fs long) fit)) (λ sum.
         let right = right_from long coded fit sum in
         ap (λ t. verdict (fields_faults lay ++ rule t (RecordEnd (length lay - 1))) x) (eq-eqb _ 29 (end_laid codes es fs right))
         ∙ ap (λ l. verdict l x) (append-nil (fields_faults lay))
@@ -88,10 +85,4 @@ module _ (codes : List ℕ) (es : List Extent) (fs : List ℕ) (eight : length c
   framed_when = none_alike {X = ℕ} _ _ 0 (judged codes es fs eight 0)
 
   pub right_when : parts_faults codes es fs ≡ [] → Right codes es fs
-  unfolding parts_faults
-  right_when faultless =
-      let a = parts (length_faults es fs) _ faultless in
-      let b = parts (over (code_faults codes) 0 8) _ a.1 in
-      let c = parts (over (extent_faults es) 0 (length es)) _ b.1 in
-      let d = parts (sum_faults es fs) _ c.1 in
-      right_from codes es fs eight a.0 b.0 c.0 d.0
+  right_when none = let f = faultless codes es fs none in right_from codes es fs eight f.length_none f.codes_none f.extents_none f.sum_none

@@ -1,5 +1,5 @@
 -- What a call of write answers, and what its buffer then holds. Assumes nothing.
-use Rattle.std.specs.Prelude.{ℕ, ◌+◌, Bool, ◌||◌, List, ◌++◌, map, length, take, drop, Ok, Err, Result, ◌==◌, nat_le}
+use Rattle.std.specs.Prelude.{ℕ, Bool, ◌||◌, List, ◌++◌, map, length, drop, Ok, Err, Result, codes, ◌==◌, nat_le}
 use Rattle.record.specs.declared.faults.Layer.TheVariants.{Job}
 use Rattle.record.specs.declared.faults.Values.{Values}
 use Rattle.record.specs.declared.writing.WriteFault.{WriteFault}
@@ -7,12 +7,18 @@ use Rattle.record.specs.declared.writing.WriteFault.TheVariants.{Frame, ShortBuf
 use Rattle.record.specs.Classes.{within}
 use Rattle.record.specs.Frame.{frame_faults}
 use Rattle.record.specs.Rules.{rule, verdict}
-use Rattle.record.specs.Values.{values_of}
+use Rattle.record.specs.Values.{values_at, values_of}
+use Rattle.record.specs.Words.{words_of}
 
 -- a fault of the frame has the frame's values, a short buffer only its number
 abbrev pub write_values : WriteFault → Values
 write_values (Frame f) = values_of f
-write_values ShortBuffer = record { number = 29; layer = Job; place = 0; tag = 0; indicator = 0; code = 0 }
+write_values ShortBuffer = values_at Job 29 0
+
+-- a fault of the frame in the frame's words
+abbrev pub write_words : WriteFault → List ℕ
+write_words (Frame f) = words_of f
+write_words ShortBuffer = codes "no room for a record"
 
 -- the faults of writing a record into a buffer: those of its frame, and then 29
 abbrev pub write_faults : List ℕ → List ℕ → List WriteFault
@@ -25,10 +31,6 @@ room_for bs old = verdict (rule (nat_le (length bs) (length old)) ShortBuffer) (
 -- the numbers that write may tell
 abbrev pub write_number : ℕ → Bool
 write_number n = within 18 21 n || n == 29
-
--- bytes in place of those that stood from p on
-abbrev pub put : List ℕ → ℕ → List ℕ → List ℕ
-put old p bs = take p old ++ (bs ++ drop (p + length bs) old)
 
 -- the buffer afterwards: the record in front of what the buffer held past it, or after a refusal what it held
 abbrev pub left_by : Result ℕ WriteFault → List ℕ → List ℕ → List ℕ

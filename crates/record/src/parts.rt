@@ -85,11 +85,7 @@ fn check_codes(codes: &[u8; 8]) -> Result<(), FrameFault>
 fn extent_holds(extent: Extent, start: usize) -> bool
     ensures { result ≡ extent_rule extent start }
 {
-    1 <= extent.tag
-        && extent.tag <= 999
-        && 1 <= extent.size
-        && extent.size <= 9999
-        && start <= 99_999
+    (1..=999).contains(&extent.tag) && (1..=9999).contains(&extent.size) && start <= 99_999
 }
 
 // The first fault among the extents, or their lengths added up.

@@ -1,15 +1,17 @@
 // Writing a record from its parts.
-ghost use Rattle.std.specs.Prelude.{◌≡◌, true, length, take, IfOk, IfErr};
+ghost use Rattle.std.specs.Prelude.{◌≡◌, true, length, take, IfOk, IfErr, Some};
 ghost use Rattle.record.specs.Formed.{Formed};
 ghost use Rattle.record.specs.Layout.{laid_from, layout};
 ghost use Rattle.record.specs.Parts.{Parts};
 ghost use Rattle.record.specs.Rules.{verdict};
 ghost use Rattle.record.specs.Trips.{OfParts, ReadBack};
 ghost use Rattle.record.specs.declared.writing.WriteFault.TheVariants.{Frame};
-ghost use Rattle.record.specs.Writing.{left_by, room_for, write_faults, write_number, write_values};
+ghost use Rattle.record.specs.Writing.{left_by, room_for, write_faults, write_number, write_values, write_words};
 
-use crate::faults::{FrameFault, Layer, Values};
+use crate::faults::{FrameFault, Layer, Refusal, Values};
 use crate::parts::RecordParts;
+use std::error::Error;
+use std::fmt;
 
 // Why a record is not written.
 #[derive(Clone, Copy, Debug, PartialEq, Eq)]
@@ -20,23 +22,29 @@ pub enum WriteFault {
     ShortBuffer,
 }
 
-impl WriteFault {
-    pub fn values(&self) -> Values
-        ensures { result ≡ write_values self.now }
-    {
+impl Refusal for WriteFault {
+    ghost meaning = { write_values };
+
+    fn values(&self) -> Values {
         match *self {
             WriteFault::Frame(fault) => fault.values(),
-            WriteFault::ShortBuffer => Values {
-                number: 29,
-                layer: Layer::Job,
-                place: 0,
-                tag: 0,
-                indicator: 0,
-                code: 0,
-            },
+            WriteFault::ShortBuffer => Values::at(Layer::Job, 29, 0),
         }
     }
 }
+
+impl fmt::Display for WriteFault {
+    ghost output = { λ f. Some (write_words f) };
+
+    fn fmt<W: fmt::Write>(&self, f: &mut fmt::Formatter<W>) -> fmt::Result {
+        match self {
+            WriteFault::Frame(fault) => write!(f, "{fault}"),
+            WriteFault::ShortBuffer => f.write_str("no room for a record"),
+        }
+    }
+}
+
+impl Error for WriteFault {}
 
 impl From<FrameFault> for WriteFault {
     ghost from_gives = { λ f w. w ≡ Frame f };

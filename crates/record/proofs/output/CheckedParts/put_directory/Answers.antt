@@ -12,7 +12,7 @@ use Rattle.record.proofs.output.CheckedParts.put_directory.Goals as goal
 pub put_entry-requires-clause-right : goal.put_entry-requires-clause-right
 put_entry-requires-clause-right c =
     let k = c.loop-k.k in
-    ap (extent_rule (extent_of c.args.self.now.parts.extents.now k)) c.loop-k.invariant.1 ∙ (faultless _ _ _ c.args.self.now.faultless).right k c.loop-k-test.true
+    ap (extent_rule (extent_of c.args.self.now.parts.extents.now k)) c.loop-k.invariant.1 ∙ (faultless _ _ _ c.args.self.now.faultless).rules k c.loop-k-test.true
 
 pub overflow_add-start : goal.overflow_add-start
 overflow_add-start c =
