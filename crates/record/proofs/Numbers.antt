@@ -1,5 +1,5 @@
 -- A record that is laid out from parts is refused by 18 to 21. Assumes nothing.
-use Rattle.std.proofs.Common.{◌≡◌, ℕ, zero, suc, ◌-◌, Bool, true, false, List, [], ◌∷◌, length, Err, sym, refl, subst, arith}
+use Rattle.std.proofs.Common.{◌≡◌, ℕ, zero, suc, ◌-◌, Bool, true, false, List, [], ◌∷◌, length, Err, sym, refl, subst}
 use Rattle.std.specs.List.{AllByRecursion}
 use Rattle.std.proofs.ByRecursion.{All-append}
 use Rattle.record.specs.declared.extent.Extent.{Extent}
@@ -36,7 +36,7 @@ by_parts codes es fs =
     (by_all (content_faults es fs) (λ k. by_field _ _ _) 0 (length es - 0)))))
 
 first_told : {X : Type 0} (fs : List FrameFault) (x : X) (f : FrameFault) → AllByRecursion Told fs → Err f ≡ verdict fs x → Told f
-first_told [] x f ok e = let z : ◌≡◌ {A = ℕ} 0 1 = cc in absurd (omega arith)
+first_told [] x f ok e = cc
 first_told (g ∷ fs) x f ok e = let same : f ≡ g = cc in subst Told (sym same) ok.0
 
 pub told_parts : {X : Type 0} (codes : List ℕ) (es : List Extent) (fs : List ℕ) (x : X) (f : FrameFault) → Err f ≡ verdict (parts_faults codes es fs) x → write_number (values_of f).number ≡ true

@@ -77,13 +77,14 @@ impl RecordParts<'_> {
 
 #[cfg(test)]
 mod tests {
-    use super::{WriteFault, write};
+    use super::WriteFault;
     use crate::c_call::ibermarc21_frame_check;
     use crate::examples::record_a;
     use crate::extent::Extent;
     use crate::faults::FrameFault;
+    use crate::parts::RecordParts;
 
-    const CODES: &[u8; 8] = b"nz   n  ";
+    const CODES: [u8; 8] = *b"nz   n  ";
 
     fn refused(fault: FrameFault) -> Result<usize, WriteFault> {
         Err(WriteFault::Frame(fault))
@@ -91,112 +92,133 @@ mod tests {
 
     #[test]
     fn record_a_from_its_parts(rt: HostRuntime) {
-        let extents = [Extent { tag: 185, size: 8 }];
-        let fields = b"  \x1fjabc\x1e";
+        let parts = RecordParts {
+            codes: CODES,
+            extents: &[Extent { tag: 185, size: 8 }],
+            fields: b"  \x1fjabc\x1e",
+        };
         let mut out = [b'-'; 50];
-        assert_eq!(rt; write(CODES, &extents, fields, &mut out), Ok(46));
+        assert_eq!(rt; parts.write(&mut out), Ok(46));
         let a = *record_a();
         assert!(rt; out[0..46] == a[0..46]);
         assert!(rt; out[46..50] == [b'-'; 4][0..4]);
         let mut short = [b'-'; 45];
-        assert_eq!(rt;
-            write(CODES, &extents, fields, &mut short),
-            Err(WriteFault::ShortBuffer)
-        );
+        assert_eq!(rt; parts.write(&mut short), Err(WriteFault::ShortBuffer));
         assert!(rt; short == [b'-'; 45]);
     }
 
     #[test]
     fn no_fields(rt: HostRuntime) {
+        let parts = RecordParts {
+            codes: CODES,
+            extents: &[],
+            fields: b"",
+        };
         let mut out = [b'-'; 26];
-        assert_eq!(rt; write(CODES, &[], b"", &mut out), Ok(26));
+        assert_eq!(rt; parts.write(&mut out), Ok(26));
         assert!(rt; out == *b"00026nz   2200025n  4500\x1e\x1d");
     }
 
     // A capital letter as the sixth code, a tag and a length that are too wide, a length too many, and x for 1F.
     #[test]
     fn parts_that_make_no_record(rt: HostRuntime) {
-        let a = [Extent { tag: 185, size: 8 }];
+        let parts = RecordParts {
+            codes: CODES,
+            extents: &[Extent { tag: 185, size: 8 }],
+            fields: b"  \x1fjabc\x1e",
+        };
         let wide_tag = [Extent { tag: 1185, size: 8 }];
         let wide_size = [Extent {
             tag: 185,
             size: 18_446_744_073_709_551_615,
         }];
-        let fields = b"  \x1fjabc\x1e";
+        let cases = [
+            (
+                RecordParts {
+                    codes: *b"nz   N  ",
+                    ..parts
+                },
+                FrameFault::Leader { place: 17 },
+            ),
+            (
+                RecordParts {
+                    extents: &wide_tag,
+                    ..parts
+                },
+                FrameFault::Entry { place: 24 },
+            ),
+            (
+                RecordParts {
+                    extents: &wide_size,
+                    ..parts
+                },
+                FrameFault::Entry { place: 24 },
+            ),
+            (
+                RecordParts {
+                    fields: b"  \x1fjab\x1e",
+                    ..parts
+                },
+                FrameFault::DirectoryEnd { place: 36 },
+            ),
+            (
+                RecordParts {
+                    fields: b"  xjabc\x1e",
+                    ..parts
+                },
+                FrameFault::Field { place: 39 },
+            ),
+        ];
         let mut out = [b'-'; 46];
-        assert_eq!(rt;
-            write(b"nz   N  ", &a, fields, &mut out),
-            refused(FrameFault::Leader { place: 17 })
-        );
-        assert_eq!(rt;
-            write(CODES, &wide_tag, fields, &mut out),
-            refused(FrameFault::Entry { place: 24 })
-        );
-        assert_eq!(rt;
-            write(CODES, &wide_size, fields, &mut out),
-            refused(FrameFault::Entry { place: 24 })
-        );
-        assert_eq!(rt;
-            write(CODES, &a, b"  \x1fjab\x1e", &mut out),
-            refused(FrameFault::DirectoryEnd { place: 36 })
-        );
-        assert_eq!(rt;
-            write(CODES, &a, b"  xjabc\x1e", &mut out),
-            refused(FrameFault::Field { place: 39 })
-        );
+        for (wrong, fault) in cases {
+            assert_eq!(rt; wrong.write(&mut out), refused(fault));
+        }
         assert!(rt; out == [b'-'; 46]);
     }
 
-    fn set(bytes: &mut [u8], place: usize, byte: u8) {
-        if place < bytes.len() {
-            bytes[place] = byte;
-        }
-    }
-
     // Two blank indicators, 1F and a at the start of a field, and 1E at its end.
-    fn mark_field(bytes: &mut [u8], start: u32, size: u16) {
-        let start = start as usize;
-        set(bytes, start, b' ');
-        set(bytes, start + 1, b' ');
-        set(bytes, start + 2, 0x1f);
-        set(bytes, start + 3, b'a');
-        set(bytes, start + usize::from(size.saturating_sub(1)), 0x1e);
-    }
-
-    // Nine fields of 9,985 bytes and one of 9,988.
-    fn mark_fields(bytes: &mut [u8]) {
-        for k in 0..9u16 {
-            mark_field(bytes, 9_985 * u32::from(k), 9_985);
+    fn mark_field(field: &mut [u8]) {
+        if let Some((start, rest)) = field.split_first_chunk_mut::<4>() {
+            *start = *b"  \x1fa";
+            if let Some(end) = rest.last_mut() {
+                *end = 0x1e;
+            }
         }
-        mark_field(bytes, 89_865, 9_988);
     }
 
     #[test]
     fn longest_field(rt: HostRuntime) {
         let mut fields = [b'x'; 9_999];
-        mark_field(&mut fields, 0, 9_999);
-        let mut out = [b'-'; 10_038];
-        let extent = Extent {
-            tag: 500,
-            size: 9_999,
+        mark_field(&mut fields);
+        let parts = RecordParts {
+            codes: CODES,
+            extents: &[Extent {
+                tag: 500,
+                size: 9_999,
+            }],
+            fields: &fields,
         };
-        assert_eq!(rt; write(CODES, &[extent], &fields, &mut out), Ok(10_037));
+        let mut out = [b'-'; 10_038];
+        assert_eq!(rt; parts.write(&mut out), Ok(10_037));
         let front = *b"10037nz   2200037n  4500500999900000\x1e";
         assert!(rt; out[0..37] == front[0..37]);
         assert!(rt; out[37..10_036] == fields[0..9_999]);
         assert!(rt; out[10_036..10_038] == [0x1d, b'-'][0..2]);
-        let wider = [b'x'; 10_000];
-        let extent = Extent {
-            tag: 500,
-            size: 10_000,
+        let wider = RecordParts {
+            codes: CODES,
+            extents: &[Extent {
+                tag: 500,
+                size: 10_000,
+            }],
+            fields: &[b'x'; 10_000],
         };
         assert_eq!(rt;
-            write(CODES, &[extent], &wider, &mut out),
+            wider.write(&mut out),
             refused(FrameFault::Entry { place: 24 })
         );
     }
 
-    // 26 + 12 x 10 + 99,853 bytes.
+    // Nine fields of 9,985 bytes and one of 9,988: 26 + 12 x 10 + 99,853 bytes.
     #[test]
     fn longest_record(rt: HostRuntime) {
         let mut extents = [Extent {
@@ -205,17 +227,27 @@ mod tests {
         }; 10];
         extents[9].size = 9_988;
         let mut fields = [b'x'; 99_853];
-        mark_fields(&mut fields);
+        let (nine, last) = fields.split_at_mut(89_865);
+        for field in nine.chunks_exact_mut(9_985) {
+            mark_field(field);
+        }
+        mark_field(last);
+        let parts = RecordParts {
+            codes: CODES,
+            extents: &extents,
+            fields: &fields,
+        };
         let mut out = [b'-'; 99_999];
-        assert_eq!(rt; write(CODES, &extents, &fields, &mut out), Ok(99_999));
+        assert_eq!(rt; parts.write(&mut out), Ok(99_999));
         assert_eq!(rt; ibermarc21_frame_check(&out), 0);
         let last = *b"500998889865\x1e";
         assert!(rt; out[132..145] == last[0..13]);
         extents[9].size = 9_989;
-        let longer = [b'x'; 99_854];
-        assert_eq!(rt;
-            write(CODES, &extents, &longer, &mut out),
-            refused(FrameFault::Length)
-        );
+        let longer = RecordParts {
+            codes: CODES,
+            extents: &extents,
+            fields: &[b'x'; 99_854],
+        };
+        assert_eq!(rt; longer.write(&mut out), refused(FrameFault::Length));
     }
 }

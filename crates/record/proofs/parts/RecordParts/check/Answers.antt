@@ -1,5 +1,5 @@
 -- Number by number: the first fault of a stage is the first of all where the stages before it have none.
-use Rattle.std.proofs.Common.{◌≡◌, ℕ, List, [], ◌∷◌, ◌++◌, length, IsErrAnd, Err, Result, arith, sym, refl, ap, ◌∙◌, subst, append-nil}
+use Rattle.std.proofs.Common.{◌≡◌, List, [], ◌∷◌, ◌++◌, length, IsErrAnd, Err, Result, sym, refl, ap, ◌∙◌, subst, append-nil}
 use Rattle.std.proofs.lemmas.Bool.{eq-eqb, ne_eqb}
 use Rattle.record.specs.declared.faults.FrameFault.{FrameFault}
 use Rattle.record.specs.declared.faults.FrameFault.TheVariants.{DirectoryEnd}
@@ -36,7 +36,7 @@ module _ (p : RecordParts) where
   Answer = Verdict (faults_in p) (λ c. c.parts ≡ p)
 
   told : (fs : List FrameFault) (f : FrameFault) → Err f ≡ verdict fs (tt {0}) → Verdict {X = CheckedParts} fs (λ c. c.parts ≡ p) (Err f)
-  told [] f e = let z : ◌≡◌ {A = ℕ} 0 1 = cc in absurd (omega arith)
+  told [] f e = cc
   told (g ∷ fs) f e = cc
 
   -- the first fault of a stage is the first of all

@@ -26,7 +26,7 @@ use Rattle.record.proofs.parts.RecordParts.write.Goals.{In_ok-checked}
 
 -- the first fault of the frame is the first of writing
 carried : (fs : List FrameFault) (rest : List WriteFault) (x y : ℕ) (f : FrameFault) → Err f ≡ verdict fs x → Err (Frame f) ≡ verdict (map Frame fs ++ rest) y
-carried [] rest x y f e = let z : ◌≡◌ {A = ℕ} 0 1 = cc in absurd (omega arith)
+carried [] rest x y f e = cc
 carried (g ∷ fs) rest x y f e = let same : f ≡ g = cc in ap (λ h. Err (Frame h)) same
 
 first_fault : (codes : List ℕ) (es : List Extent) (fs old : List ℕ) → length codes ≡ 8 → (f : FrameFault) → Err f ≡ verdict (parts_faults codes es fs) (laid_length es fs) → Err (Frame f) ≡ verdict (write_faults (laid codes es fs) old) (length (laid codes es fs))
