@@ -9,9 +9,6 @@ use Rattle.record.proofs.Extents.{fits_when, starts_all, starts_next}
 use Rattle.record.proofs.Ranges.{kept, broken, ended}
 use Rattle.record.proofs.parts.check_extents.Goals as goal
 
-pub overflow_add-start : goal.overflow_add-start
-overflow_add-start c = omega (arith, (fits_when (extent_of c.args.extents.now c.loop-k.k) c.loop-k.start (sym c.if-not-extent_holds.ensures)).small_size)
-
 pub loop-k-preserved : goal.loop-k-preserved
 loop-k-preserved c =
     let es = c.args.extents.now in

@@ -1,9 +1,9 @@
 -- Leader, directory, 1E, fields and 1D are written one after the other.
-use Rattle.std.proofs.Common.{◌≡◌, ◌+◌, ◌-◌, ◌*◌, [], ◌∷◌, ◌++◌, length, rules, refl, ap, ◌∙◌, append_assoc, arith}
-use Rattle.std.proofs.lemmas.List.{places}
+use Rattle.std.proofs.Common.{◌≡◌, ◌+◌, ◌-◌, ◌*◌, [], ◌∷◌, ◌++◌, length, refl, ap, ◌∙◌, append_assoc, arith}
 use Rattle.record.specs.Layout.{directory, laid, leader}
 use Rattle.record.proofs.Faultless.{faultless}
 use Rattle.record.proofs.Laid.{length-directory}
+use Rattle.record.proofs.Leaders.{length-leader}
 use Rattle.record.proofs.Puts.{next, next_byte, nothing, whole}
 use Rattle.record.proofs.output.CheckedParts.put.Goals as goal
 
@@ -21,7 +21,7 @@ returns c =
     let fs = c.args.self.now.parts.fields.now in
     let long = length c.args.out.now in
     let base = 25 + 12 * length es in
-    let front : length (leader codes long base) ≡ 24 = search (rules, places) in
+    let front : length (leader codes long base) ≡ 24 = length-leader codes long base (omega arith) in
     let w1 = next (nothing c.args.out.now) 0 24 refl c.put_leader.ensures front in
     let w2 = next w1 24 (base - 1 - 24) refl c.put_directory.ensures (omega (arith, length-directory 0 es)) in
     let w3 = next_byte w2 (base - 1) 30 (omega arith) (omega arith) in

@@ -9,13 +9,11 @@ use Rattle.record.specs.Directory.{entry_place}
 use Rattle.record.specs.Extents.{total}
 use Rattle.record.specs.PartsFaults.{code_faults, content_faults, extent_faults, faults_in, length_faults, parts_faults, sum_faults}
 use Rattle.record.specs.Rules.{Verdict, over, rule, verdict}
-use Rattle.record.proofs.Verdicts.{answered, first, none, returned, skip, unbroken, value}
+use Rattle.record.proofs.Verdicts.{first, none, returned, skip, unbroken, value}
 use Rattle.record.proofs.parts.RecordParts.check.Goals as goal
+use Rattle.record.proofs.parts.RecordParts.check.Goals.{In_ok-check_length, In_ok-check_codes, In_ok-sum}
 
 module _ (p : RecordParts) where
-  abbrev length_stage : List FrameFault
-  length_stage = length_faults p.extents.now p.fields.now
-
   abbrev codes : List FrameFault
   codes = over (code_faults p.codes) 0 8
 
@@ -46,76 +44,53 @@ module _ (p : RecordParts) where
   stopped : {X : Type 0} (stage rest : List FrameFault) → Decides (stage ++ rest) → (x : X) (f : FrameFault) → Err f ≡ verdict stage x → (r : Result CheckedParts FrameFault) → IsErrAnd r (λ g. g ≡ f) → Answer r
   stopped stage rest is x f e r h = subst Answer (sym (returned r f h)) (decided stage rest is x f e)
 
-  at_length : Decides (length_stage ++ (codes ++ (extents ++ (sum ++ contents))))
+  whole : Decides (length_faults p.extents.now p.fields.now ++ (codes ++ (extents ++ (sum ++ contents))))
   unfolding parts_faults
-  at_length = refl
+  whole = refl
 
-  module _ (long : length_stage ≡ []) where
-    at_codes : Decides (codes ++ (extents ++ (sum ++ contents)))
-    at_codes = at_length ∙ skip _ long
+-- what decides after each stage that has no fault
+past_length : (c : In_ok-check_length) → let p = c.args.self.now in Decides p (codes p ++ (extents p ++ (sum p ++ contents p)))
+past_length c = whole c.args.self.now ∙ skip _ (none _ tt _ c.in_ok-check_length.ensures)
 
-    module _ (coded : codes ≡ []) where
-      at_extents : Decides (extents ++ (sum ++ contents))
-      at_extents = at_codes ∙ skip _ coded
+past_codes : (c : In_ok-check_codes) → let p = c.args.self.now in Decides p (extents p ++ (sum p ++ contents p))
+past_codes c = whole c.args.self.now ∙ skip _ (none _ tt _ c.in_ok-check_length.ensures) ∙ skip _ (none _ tt _ c.in_ok-check_codes.ensures)
 
-      module _ (fit : extents ≡ []) where
-        at_sum : Decides (sum ++ contents)
-        at_sum = at_extents ∙ skip _ fit
+module _ (c : In_ok-sum) where
+  past_extents : let p = c.args.self.now in Decides p (sum p ++ contents p)
+  past_extents =
+      whole c.args.self.now ∙ skip _ (none _ tt _ c.in_ok-check_length.ensures) ∙ skip _ (none _ tt _ c.in_ok-check_codes.ensures)
+      ∙ skip _ (none _ _ _ c.in_ok-sum.ensures)
 
-        at_contents : total p.extents.now ≡ length p.fields.now → Decides (contents ++ [])
-        at_contents e = at_sum ∙ skip _ (unbroken _ _ (eq-eqb _ _ e)) ∙ sym (append-nil contents)
+  added_up : c.in_ok-sum.sum ≡ total c.args.self.now.extents.now
+  added_up = value (extents c.args.self.now) _ _ c.in_ok-sum.ensures
 
--- the stages before a place have no fault
+  past_sum : c.in_ok-sum.sum ≡ length c.args.self.now.fields.now → let p = c.args.self.now in Decides p (contents p ++ [])
+  past_sum e = past_extents ∙ skip _ (unbroken _ _ (eq-eqb _ _ (sym added_up ∙ e))) ∙ sym (append-nil (contents c.args.self.now))
+
+  past_contents : c.in_ok-sum.sum ≡ length c.args.self.now.fields.now → contents c.args.self.now ≡ [] → Decides c.args.self.now []
+  past_contents e none_left = past_sum e ∙ skip [] none_left
+
 pub returns-in_err-check_length : goal.returns-in_err-check_length
-returns-in_err-check_length c =
-    let p = c.args.self.now in
-    stopped p _ _ (at_length p) tt _ c.in_err-check_length.ensures _ c.from_residual.ensures.1
+returns-in_err-check_length c = stopped c.args.self.now _ _ (whole c.args.self.now) tt _ c.in_err-check_length.ensures _ c.from_residual.ensures.1
 
 pub returns-in_err-check_codes : goal.returns-in_err-check_codes
 returns-in_err-check_codes c =
-    let p = c.args.self.now in
-    let long = none (length_stage p) tt _ c.in_ok-check_length.ensures in
-    stopped p _ _ (at_codes p long) tt _ c.in_err-check_codes.ensures _ c.from_residual-in_err-check_codes.ensures.1
+    stopped c.args.self.now _ _ (past_length (goal.at.returns-in_err-check_codes c).In_ok-check_length) tt _ c.in_err-check_codes.ensures _ c.from_residual-in_err-check_codes.ensures.1
 
 pub returns-in_err-sum : goal.returns-in_err-sum
 returns-in_err-sum c =
-    let p = c.args.self.now in
-    let long = none (length_stage p) tt _ c.in_ok-check_length.ensures in
-    let coded = none (codes p) tt _ c.in_ok-check_codes.ensures in
-    stopped p _ _ (at_extents p long coded) _ _ c.in_err-sum.ensures _ c.from_residual-in_err-sum.ensures.1
+    stopped c.args.self.now _ _ (past_codes (goal.at.returns-in_err-sum c).In_ok-check_codes) _ _ c.in_err-sum.ensures _ c.from_residual-in_err-sum.ensures.1
 
 pub returns-then-sum-self : goal.returns-then-sum-self
 returns-then-sum-self c =
     let p = c.args.self.now in
-    let long = none (length_stage p) tt _ c.in_ok-check_length.ensures in
-    let coded = none (codes p) tt _ c.in_ok-check_codes.ensures in
-    let fit = none (extents p) _ _ c.in_ok-sum.ensures in
-    let other : total p.extents.now ≡ length p.fields.now → ⊥ = λ e. c.if-sum-self.true (value (extents p) _ _ c.in_ok-sum.ensures ∙ e) in
-    decided p (sum p) _ (at_sum p long coded fit) (tt {0}) _ (ap (λ b. verdict (rule b (DirectoryEnd (entry_place (length p.extents.now)))) (tt {0})) (sym (ne_eqb _ _ other)))
+    let d = (goal.at.returns-then-sum-self c).In_ok-sum in
+    let other : total p.extents.now ≡ length p.fields.now → ⊥ = λ e. c.if-sum-self.true (added_up d ∙ e) in
+    decided p (sum p) _ (past_extents d) (tt {0}) _ (ap (λ b. verdict (rule b (DirectoryEnd (entry_place (length p.extents.now)))) (tt {0})) (sym (ne_eqb _ _ other)))
 
 pub returns-in_err-check_contents : goal.returns-in_err-check_contents
 returns-in_err-check_contents c =
-    let p = c.args.self.now in
-    let long = none (length_stage p) tt _ c.in_ok-check_length.ensures in
-    let coded = none (codes p) tt _ c.in_ok-check_codes.ensures in
-    let fit = none (extents p) _ _ c.in_ok-sum.ensures in
-    let filled = sym (value (extents p) _ _ c.in_ok-sum.ensures) ∙ c.if-sum-self.false in
-    stopped p _ _ (at_contents p long coded fit filled) tt _ c.in_err-check_contents.ensures _ c.from_residual-in_err-check_contents.ensures.1
+    stopped c.args.self.now _ _ (past_sum (goal.at.returns-in_err-check_contents c).In_ok-sum c.if-sum-self.false) tt _ c.in_err-check_contents.ensures _ c.from_residual-in_err-check_contents.ensures.1
 
 pub invariant_of-result : goal.invariant_of-result
-invariant_of-result c =
-    let p = c.args.self.now in
-    let long = none (length_stage p) tt _ c.in_ok-check_length.ensures in
-    let coded = none (codes p) tt _ c.in_ok-check_codes.ensures in
-    let fit = none (extents p) _ _ c.in_ok-sum.ensures in
-    let filled = sym (value (extents p) _ _ c.in_ok-sum.ensures) ∙ c.if-sum-self.false in
-    record { faultless = at_contents p long coded fit filled ∙ skip _ (none (contents p) tt _ c.in_ok-check_contents.ensures) }
-
-pub returns : goal.returns
-returns c =
-    let p = c.args.self.now in
-    let long = none (length_stage p) tt _ c.in_ok-check_length.ensures in
-    let coded = none (codes p) tt _ c.in_ok-check_codes.ensures in
-    let fit = none (extents p) _ _ c.in_ok-sum.ensures in
-    let filled = sym (value (extents p) _ _ c.in_ok-sum.ensures) ∙ c.if-sum-self.false in
-    answered (λ x. x.parts ≡ p) (faults_in p) (at_contents p long coded fit filled ∙ skip _ (none (contents p) tt _ c.in_ok-check_contents.ensures)) _ refl
+invariant_of-result c = record { faultless = past_contents (goal.at.invariant_of-result c).In_ok-sum c.if-sum-self.false (none _ tt _ c.in_ok-check_contents.ensures) }
