@@ -1,5 +1,5 @@
 -- Parts of a list: what follows them, how long they are, and their bytes. Assumes nothing.
-use Rattle.std.proofs.Common.{◌≡◌, ℕ, ◌+◌, ◌≤◌, List, ◌++◌, map, length, get_or, take, drop, sym, ap, ◌∙◌, arith, length-drop, take-append-drop}
+use Rattle.std.proofs.Common.{◌≡◌, ℕ, ◌+◌, ◌≤◌, List, ◌++◌, map, length, get_or, take, drop, sym, ap, ◌∙◌, arith, length-drop, take-add, take-append-drop}
 use Rattle.std.specs.List.{range_with_len}
 use Rattle.std.proofs.lemmas.List.FromFn.{fill_by_all}
 use Rattle.std.proofs.lemmas.List.{drop-drop, drop-take, get_or-drop, get_or-take, length-take-le, take-take}
@@ -7,6 +7,10 @@ use Rattle.record.specs.Figures.{part}
 
 pub next_part : (bs : List ℕ) (p n : ℕ) → drop p bs ≡ part bs p n ++ drop (p + n) bs
 next_part bs p n = sym (take-append-drop n (drop p bs)) ∙ ap (λ l. part bs p n ++ l) (drop-drop n p bs)
+
+-- a part in two
+pub part_parts : (bs : List ℕ) (p n m : ℕ) → part bs p (n + m) ≡ part bs p n ++ part bs (p + n) m
+part_parts bs p n m = take-add n m (drop p bs) ∙ ap (λ l. part bs p n ++ take m l) (drop-drop n p bs)
 
 pub length_part : (bs : List ℕ) (p n : ℕ) → p + n ≤ length bs → length (part bs p n) ≡ n
 length_part bs p n h = length-take-le n (drop p bs) (omega (arith, length-drop p bs))
