@@ -90,6 +90,20 @@ mod tests {
         Err(WriteFault::Frame(fault))
     }
 
+    fn write(
+        codes: [u8; 8],
+        extents: &[Extent],
+        fields: &[u8],
+        out: &mut [u8],
+    ) -> Result<usize, WriteFault> {
+        let parts = RecordParts {
+            codes,
+            extents,
+            fields,
+        };
+        parts.write(out)
+    }
+
     #[test]
     fn record_a_from_its_parts(rt: HostRuntime) {
         let parts = RecordParts {
@@ -109,70 +123,42 @@ mod tests {
 
     #[test]
     fn no_fields(rt: HostRuntime) {
-        let parts = RecordParts {
-            codes: CODES,
-            extents: &[],
-            fields: b"",
-        };
         let mut out = [b'-'; 26];
-        assert_eq!(rt; parts.write(&mut out), Ok(26));
+        assert_eq!(rt; write(CODES, &[], b"", &mut out), Ok(26));
         assert!(rt; out == *b"00026nz   2200025n  4500\x1e\x1d");
     }
 
     // A capital letter as the sixth code, a tag and a length that are too wide, a length too many, and x for 1F.
     #[test]
     fn parts_that_make_no_record(rt: HostRuntime) {
-        let parts = RecordParts {
-            codes: CODES,
-            extents: &[Extent { tag: 185, size: 8 }],
-            fields: b"  \x1fjabc\x1e",
-        };
+        let a = [Extent { tag: 185, size: 8 }];
         let wide_tag = [Extent { tag: 1185, size: 8 }];
         let wide_size = [Extent {
             tag: 185,
             size: 18_446_744_073_709_551_615,
         }];
-        let cases = [
-            (
-                RecordParts {
-                    codes: *b"nz   N  ",
-                    ..parts
-                },
-                FrameFault::Leader { place: 17 },
-            ),
-            (
-                RecordParts {
-                    extents: &wide_tag,
-                    ..parts
-                },
-                FrameFault::Entry { place: 24 },
-            ),
-            (
-                RecordParts {
-                    extents: &wide_size,
-                    ..parts
-                },
-                FrameFault::Entry { place: 24 },
-            ),
-            (
-                RecordParts {
-                    fields: b"  \x1fjab\x1e",
-                    ..parts
-                },
-                FrameFault::DirectoryEnd { place: 36 },
-            ),
-            (
-                RecordParts {
-                    fields: b"  xjabc\x1e",
-                    ..parts
-                },
-                FrameFault::Field { place: 39 },
-            ),
-        ];
+        let fields = b"  \x1fjabc\x1e";
         let mut out = [b'-'; 46];
-        for (wrong, fault) in cases {
-            assert_eq!(rt; wrong.write(&mut out), refused(fault));
-        }
+        assert_eq!(rt;
+            write(*b"nz   N  ", &a, fields, &mut out),
+            refused(FrameFault::Leader { place: 17 })
+        );
+        assert_eq!(rt;
+            write(CODES, &wide_tag, fields, &mut out),
+            refused(FrameFault::Entry { place: 24 })
+        );
+        assert_eq!(rt;
+            write(CODES, &wide_size, fields, &mut out),
+            refused(FrameFault::Entry { place: 24 })
+        );
+        assert_eq!(rt;
+            write(CODES, &a, b"  \x1fjab\x1e", &mut out),
+            refused(FrameFault::DirectoryEnd { place: 36 })
+        );
+        assert_eq!(rt;
+            write(CODES, &a, b"  xjabc\x1e", &mut out),
+            refused(FrameFault::Field { place: 39 })
+        );
         assert!(rt; out == [b'-'; 46]);
     }
 
@@ -190,30 +176,23 @@ mod tests {
     fn longest_field(rt: HostRuntime) {
         let mut fields = [b'x'; 9_999];
         mark_field(&mut fields);
-        let parts = RecordParts {
-            codes: CODES,
-            extents: &[Extent {
-                tag: 500,
-                size: 9_999,
-            }],
-            fields: &fields,
+        let extent = Extent {
+            tag: 500,
+            size: 9_999,
         };
         let mut out = [b'-'; 10_038];
-        assert_eq!(rt; parts.write(&mut out), Ok(10_037));
+        assert_eq!(rt; write(CODES, &[extent], &fields, &mut out), Ok(10_037));
         let front = *b"10037nz   2200037n  4500500999900000\x1e";
         assert!(rt; out[0..37] == front[0..37]);
         assert!(rt; out[37..10_036] == fields[0..9_999]);
         assert!(rt; out[10_036..10_038] == [0x1d, b'-'][0..2]);
-        let wider = RecordParts {
-            codes: CODES,
-            extents: &[Extent {
-                tag: 500,
-                size: 10_000,
-            }],
-            fields: &[b'x'; 10_000],
+        let wider = [b'x'; 10_000];
+        let extent = Extent {
+            tag: 500,
+            size: 10_000,
         };
         assert_eq!(rt;
-            wider.write(&mut out),
+            write(CODES, &[extent], &wider, &mut out),
             refused(FrameFault::Entry { place: 24 })
         );
     }
@@ -232,22 +211,16 @@ mod tests {
             mark_field(field);
         }
         mark_field(last);
-        let parts = RecordParts {
-            codes: CODES,
-            extents: &extents,
-            fields: &fields,
-        };
         let mut out = [b'-'; 99_999];
-        assert_eq!(rt; parts.write(&mut out), Ok(99_999));
+        assert_eq!(rt; write(CODES, &extents, &fields, &mut out), Ok(99_999));
         assert_eq!(rt; ibermarc21_frame_check(&out), 0);
         let last = *b"500998889865\x1e";
         assert!(rt; out[132..145] == last[0..13]);
         extents[9].size = 9_989;
-        let longer = RecordParts {
-            codes: CODES,
-            extents: &extents,
-            fields: &[b'x'; 99_854],
-        };
-        assert_eq!(rt; longer.write(&mut out), refused(FrameFault::Length));
+        let longer = [b'x'; 99_854];
+        assert_eq!(rt;
+            write(CODES, &extents, &longer, &mut out),
+            refused(FrameFault::Length)
+        );
     }
 }
