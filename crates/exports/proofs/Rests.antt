@@ -12,16 +12,12 @@ pub rest_whole : (bs : List ℕ) (p : ℕ) → take (length bs - p) (drop p bs) 
 rest_whole bs p = take_all (length bs - p) (drop p bs) (omega (arith, length-drop p bs))
 
 module _ (bs : List ℕ) (p n : ℕ) (within : n ≤ length (take (length bs - p) (drop p bs))) where
-  -- the first bytes of what is left
-  front : take (n - 0) (take (length bs - p) (drop p bs)) ≡ take n (drop p bs)
-  front = ap (take (n - 0)) (rest_whole bs p) ∙ ap (λ m. take m (drop p bs)) (omega arith)
-
-  pub front_length : length (take (n - 0) (take (length bs - p) (drop p bs))) ≡ n
-  front_length = ap length front ∙ length-take-le n (drop p bs) (rw (rest_whole bs p) at within)
+  pub front_length : length (take n (take (length bs - p) (drop p bs))) ≡ n
+  front_length = length-take-le n (take (length bs - p) (drop p bs)) within
 
   -- the first bytes, and what follows them
-  pub front_then : drop p bs ≡ take (n - 0) (take (length bs - p) (drop p bs)) ++ drop (p + n) bs
-  front_then = next_part bs p n ∙ ap (λ l. l ++ drop (p + n) bs) (sym front)
+  pub front_then : drop p bs ≡ take n (take (length bs - p) (drop p bs)) ++ drop (p + n) bs
+  front_then = next_part bs p n ∙ ap (λ l. take n l ++ drop (p + n) bs) (sym (rest_whole bs p))
 
 -- what a walk gave and what is left, from any byte on
 pub walked : (s : Records) (rs : List Offered) (t : Records) → Yields Steps s (map Ok rs) t → rest s ≡ end_to_end rs ++ rest t

@@ -66,11 +66,7 @@ pub fn copy_record(heap: Global, record: &[u8], out: &mut [u8]) -> Result<usize,
 fn extents_of(heap: Global, parts: Record<'_>) -> Result<Vec<Extent>, AllocError>
     ensures { IfOk result (λ v. v.items ≡ map extent_read (fields_in parts.entry)) }
 {
-    let mut extents = Vec::new(heap);
-    for field in parts.fields() {
-        extents.push(field.extent())?;
-    }
-    Ok(extents)
+    parts.fields().map(|field| field.extent()).collect(heap)
 }
 
 #[cfg(test)]
