@@ -1,5 +1,6 @@
 pub mod Classes
 pub mod Values
+pub mod Words
 pub mod Rules
 pub mod Figures
 pub mod Leader

@@ -2,12 +2,17 @@
 use Rattle.std.specs.Prelude.{ℕ}
 use Rattle.record.specs.declared.faults.FrameFault.{FrameFault}
 use Rattle.record.specs.declared.faults.FrameFault.TheVariants.{Length, Leader, Entry, DirectoryEnd, Field, RecordEnd}
+use Rattle.record.specs.declared.faults.Layer.{Layer}
 use Rattle.record.specs.declared.faults.Layer.TheVariants as layer
 use Rattle.record.specs.declared.faults.Values.{Values}
 
--- the frame tells a number and a place, and leaves tag, indicator and code at 0
+-- a refusal that has a number and a place, and leaves tag, indicator and code at 0
+abbrev pub values_at : Layer → ℕ → ℕ → Values
+values_at l n p = record { number = n; layer = l; place = p; tag = 0; indicator = 0; code = 0 }
+
+-- the frame tells a number and a place
 abbrev pub frame_values : ℕ → ℕ → Values
-frame_values n p = record { number = n; layer = layer.Frame; place = p; tag = 0; indicator = 0; code = 0 }
+frame_values n p = values_at layer.Frame n p
 
 abbrev pub values_of : FrameFault → Values
 values_of Length = frame_values 18 0

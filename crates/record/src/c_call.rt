@@ -3,7 +3,7 @@ ghost use Rattle.std.specs.Prelude.{◌≡◌, ◌+◌, ◌*◌, ◌<◌};
 ghost use Rattle.record.specs.Frame.{frame_faults};
 ghost use Rattle.record.specs.Told.{Readable, told};
 
-use crate::faults::Values;
+use crate::faults::{Refusal, Values};
 use crate::frame::check;
 
 // 0 where the frame holds, or else the refusal's number times 100,000 plus its place.

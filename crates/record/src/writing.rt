@@ -9,7 +9,7 @@ ghost use Rattle.record.specs.declared.writing.WriteFault.TheVariants.{Frame};
 ghost use Rattle.record.specs.Writing.{left_by, room_for, write_faults, write_number, write_values};
 
 use crate::extent::Extent;
-use crate::faults::{FrameFault, Layer, Values};
+use crate::faults::{FrameFault, Layer, Refusal, Values};
 use crate::output::put_record;
 use crate::parts::check_parts;
 
