@@ -1,11 +1,12 @@
 // The command `copy`: each record is read, and written anew to another file.
-use crate::files::{Position, Visit, read_file, visit_export};
+use crate::files::{Position, Visit, or_tell, visit_export};
 use crate::words::tell_fault;
 use exports::copy::{Uncopied, copy_record};
 use record::writing::WriteFault;
+use std::env::Args;
 use std::fs::File;
-use std::io;
 use std::io::Write;
+use std::{fs, io};
 
 // No record is longer than this.
 const LONGEST: usize = 99_999;
@@ -20,18 +21,21 @@ struct Copying {
     bytes: u64,
 }
 
-// Copies the records of an export to a file that is not there yet. Whether all of the export was read.
-pub(crate) fn copy_export(rt: &HostRuntime, from: &str, to: &str) -> io::Result<bool> {
-    let export = match read_file(rt, from)? {
-        Some(export) => export,
-        None => return Ok(false),
+// Copies the records of the export in the first file to the second.
+pub(crate) fn copy_files(rt: &HostRuntime, mut files: Args) -> io::Result<bool> {
+    let (Some(from), Some(to)) = (files.next(), files.next()) else {
+        return Ok(false);
     };
-    let file = match File::create_new(rt, to) {
-        Ok(file) => file,
-        Err(error) => {
-            eprintln!(rt; "ibermarc21: {to}: cannot be made: {error}")?;
-            return Ok(false);
-        }
+    copy_export(rt, from.as_str(), to.as_str())
+}
+
+// Copies the records of an export to a file that is not there yet. Whether all of the export was read.
+fn copy_export(rt: &HostRuntime, from: &str, to: &str) -> io::Result<bool> {
+    let Some(export) = or_tell(rt, from, "read", fs::read(rt, from))? else {
+        return Ok(false);
+    };
+    let Some(file) = or_tell(rt, to, "made", File::create_new(rt, to))? else {
+        return Ok(false);
     };
     let mut copying = Copying {
         file,
@@ -41,28 +45,24 @@ pub(crate) fn copy_export(rt: &HostRuntime, from: &str, to: &str) -> io::Result<
         bytes: 0,
     };
     let whole = visit_export(rt, from, export.as_slice(), &mut copying)?;
-    copying.report(rt)?;
+    let Copying {
+        copied,
+        refused,
+        bytes,
+        ..
+    } = copying;
+    println!(rt; "{copied} records copied, {bytes} bytes; {refused} refused")?;
     Ok(whole)
-}
-
-impl Copying {
-    // Prints the totals.
-    fn report(&self, rt: &HostRuntime) -> io::Result<()> {
-        let copied = self.copied;
-        let refused = self.refused;
-        let bytes = self.bytes;
-        println!(rt; "{copied} records copied, {bytes} bytes; {refused} refused")
-    }
 }
 
 impl Visit for Copying {
     // Copies a record, or prints what is wrong with it.
     fn visit(&mut self, rt: &HostRuntime, position: Position<'_>, record: &[u8]) -> io::Result<()> {
-        match copy_record(rt.alloc(), record, self.room.as_mut_slice()) {
+        match copy_record(rt.alloc(), record, &mut self.room) {
             Ok(len) => {
                 self.copied = self.copied.saturating_add(1);
                 self.bytes = self.bytes.saturating_add(len as u64);
-                self.file.write_all(&self.room.as_slice()[0..len])
+                self.file.write_all(&self.room[..len])
             }
             Err(Uncopied::Refused(WriteFault::Frame(fault))) => {
                 self.refused = self.refused.saturating_add(1);

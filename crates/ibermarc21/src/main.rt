@@ -7,12 +7,13 @@ mod files;
 mod showing;
 mod words;
 
-use checking::Checking;
-use copying::copy_export;
+use checking::check_files;
+use copying::copy_files;
 use files::visit_files;
 use showing::Showing;
 use std::env::Args;
 use std::process::ExitCode;
+use std::str::FromStr;
 use std::{env, io};
 
 const USAGE: &str = "usage: ibermarc21 check FILE... | show FILE... | copy FILE TO";
@@ -24,56 +25,56 @@ enum Command {
     Copy,
 }
 
+// A word that means no command.
+#[derive(Clone, Copy)]
+struct NoCommand;
+
+impl FromStr for Command {
+    type Err = NoCommand;
+
+    fn from_str(word: &str) -> Result<Command, NoCommand> {
+        match word {
+            "check" => Ok(Command::Check),
+            "show" => Ok(Command::Show),
+            "copy" => Ok(Command::Copy),
+            _ => Err(NoCommand),
+        }
+    }
+}
+
 impl Command {
-    // The command that this word means, where it takes so many files.
-    fn of(word: &str, files: usize) -> Option<Command> {
-        match (word, files) {
-            (_, 0) => None,
-            ("check", _) => Some(Command::Check),
-            ("show", _) => Some(Command::Show),
-            ("copy", 2) => Some(Command::Copy),
-            _ => None,
+    // Whether it takes so many files.
+    fn takes(self, files: usize) -> bool {
+        match self {
+            Command::Check | Command::Show => files > 0,
+            Command::Copy => files == 2,
         }
     }
 
     // Runs the command. Whether each export was read to its end.
     fn run(self, rt: &HostRuntime, files: Args) -> io::Result<bool> {
         match self {
-            Command::Check => check(rt, files),
+            Command::Check => check_files(rt, files),
             Command::Show => visit_files(rt, files, &mut Showing),
-            Command::Copy => copy(rt, files),
+            Command::Copy => copy_files(rt, files),
         }
-    }
-}
-
-fn check(rt: &HostRuntime, files: Args) -> io::Result<bool> {
-    let mut checking = Checking::new();
-    let whole = visit_files(rt, files, &mut checking)?;
-    checking.report(rt)?;
-    Ok(whole)
-}
-
-fn copy(rt: &HostRuntime, mut files: Args) -> io::Result<bool> {
-    match (files.next(), files.next()) {
-        (Some(from), Some(to)) => copy_export(rt, from.as_str(), to.as_str()),
-        _ => Ok(false),
     }
 }
 
 fn main(rt: HostRuntime) -> io::Result<ExitCode> {
     let mut args = env::args(&rt)?;
-    let _ = args.next();
-    let command = match args.next() {
-        Some(word) => Command::of(word.as_str(), args.len()),
-        None => None,
+    let Some(command) = command_of(&mut args) else {
+        eprintln!(rt; "{USAGE}")?;
+        return Ok(ExitCode::FAILURE);
     };
-    match command {
-        Some(command) => finish(&rt, command.run(&rt, args)),
-        None => {
-            eprintln!(rt; "{USAGE}")?;
-            Ok(ExitCode::FAILURE)
-        }
-    }
+    finish(&rt, command.run(&rt, args))
+}
+
+// The command that the word after the program's name means, where it takes the files that follow.
+fn command_of(args: &mut Args) -> Option<Command> {
+    let word = args.nth(1)?;
+    let command = word.parse::<Command>().ok()?;
+    command.takes(args.len()).then_some(command)
 }
 
 // How the program ends after a command.
