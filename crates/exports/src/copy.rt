@@ -1,16 +1,19 @@
 // Copying: a record is read, and written anew from its parts.
-ghost use Rattle.std.specs.Prelude.{◌≡◌, ◌≤◌, map, length, IfOk};
+ghost use Rattle.std.specs.Prelude.{◌≡◌, ◌≤◌, map, length, IfOk, Some};
 ghost use Rattle.record.specs.Cursors.{fields_in};
 ghost use Rattle.record.specs.Reading.{extent_read};
 ghost use Rattle.record.specs.declared.writing.WriteFault.TheVariants.{Frame};
 ghost use Rattle.exports.specs.declared.copy.Uncopied.TheVariants.{Refused, NoMemory};
 ghost use Rattle.exports.specs.Copies.{Copies};
+ghost use Rattle.exports.specs.Words.{uncopied_text};
 
 use record::extent::Extent;
 use record::faults::FrameFault;
 use record::reading::{Record, read};
 use record::writing::{WriteFault, write};
 use std::alloc::{AllocError, Global};
+use std::error::Error;
+use std::fmt;
 
 // Why a record is not copied.
 #[derive(Clone, Copy, Debug, PartialEq, Eq)]
@@ -21,13 +24,27 @@ pub enum Uncopied {
     NoMemory,
 }
 
+impl fmt::Display for Uncopied {
+    ghost output = { λ why. Some (uncopied_text why) };
+
+    fn fmt<W: fmt::Write>(&self, f: &mut fmt::Formatter<W>) -> fmt::Result {
+        match self {
+            Uncopied::Refused(WriteFault::Frame(fault)) => write!(f, "{fault}"),
+            Uncopied::Refused(WriteFault::ShortBuffer) => write!(f, "no room for a record"),
+            Uncopied::NoMemory => write!(f, "no memory for the fields of a record"),
+        }
+    }
+}
+
+impl Error for Uncopied {}
+
 impl From<FrameFault> for Uncopied {
     ghost from_gives = { λ f u. u ≡ Refused (Frame f) };
 
     fn from(fault: FrameFault) -> Uncopied
         ensures { result ≡ Refused (Frame fault) }
     {
-        Uncopied::Refused(WriteFault::Frame(fault))
+        Self::Refused(WriteFault::Frame(fault))
     }
 }
 
@@ -37,7 +54,7 @@ impl From<WriteFault> for Uncopied {
     fn from(fault: WriteFault) -> Uncopied
         ensures { result ≡ Refused fault }
     {
-        Uncopied::Refused(fault)
+        Self::Refused(fault)
     }
 }
 
@@ -47,7 +64,7 @@ impl From<AllocError> for Uncopied {
     fn from(_: AllocError) -> Uncopied
         ensures { result ≡ NoMemory }
     {
-        Uncopied::NoMemory
+        Self::NoMemory
     }
 }
 
