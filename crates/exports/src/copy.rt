@@ -75,7 +75,7 @@ pub fn copy_record(heap: Global, record: &[u8], out: &mut [u8]) -> Result<usize,
 {
     let parts = read(record)?;
     let extents = extents_of(heap, parts)?;
-    let len = write(&parts.codes(), extents.as_slice(), parts.contents(), out)?;
+    let len = write(&parts.codes(), &extents, parts.contents(), out)?;
     Ok(len)
 }
 

@@ -4,10 +4,9 @@ use crate::words::tell_fault;
 use exports::totals::Totals;
 use record::frame::check;
 use std::env::Args;
-use std::io;
 
 // Checks the records of the exports in these files. Whether each was read to its end.
-pub(crate) fn check_files(rt: &HostRuntime, files: Args) -> io::Result<bool> {
+pub(crate) fn check_files(rt: &HostRuntime, files: Args) -> anyhow::Result<bool> {
     let mut totals = Totals::new();
     let whole = visit_files(rt, files, &mut totals)?;
     let records = totals.records();
@@ -18,12 +17,17 @@ pub(crate) fn check_files(rt: &HostRuntime, files: Args) -> io::Result<bool> {
 
 impl Visit for Totals {
     // Checks a record, counts it, and prints what is wrong with it.
-    fn visit(&mut self, rt: &HostRuntime, position: Position<'_>, record: &[u8]) -> io::Result<()> {
+    fn visit(
+        &mut self,
+        rt: &HostRuntime,
+        position: Position<'_>,
+        record: &[u8],
+    ) -> anyhow::Result<()> {
         let answer = check(record);
         self.count(record.len(), answer);
-        match answer {
-            Ok(_) => Ok(()),
-            Err(fault) => tell_fault(rt, position, fault),
+        if let Err(fault) = answer {
+            tell_fault(rt, position, fault)?;
         }
+        Ok(())
     }
 }

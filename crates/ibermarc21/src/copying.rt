@@ -3,6 +3,7 @@ use crate::files::{Position, Visit, or_tell, visit_export};
 use crate::words::tell_fault;
 use exports::copy::{Uncopied, copy_record};
 use record::writing::WriteFault;
+use std::alloc::Global;
 use std::env::Args;
 use std::fs::File;
 use std::io::Write;
@@ -21,30 +22,37 @@ struct Copying {
     bytes: u64,
 }
 
+impl Copying {
+    // Nothing is copied yet.
+    fn new(heap: Global, file: File) -> io::Result<Copying> {
+        Ok(Copying {
+            file,
+            room: vec![in heap; 0; LONGEST]?,
+            copied: 0,
+            refused: 0,
+            bytes: 0,
+        })
+    }
+}
+
 // Copies the records of the export in the first file to the second.
-pub(crate) fn copy_files(rt: &HostRuntime, mut files: Args) -> io::Result<bool> {
+pub(crate) fn copy_files(rt: &HostRuntime, mut files: Args) -> anyhow::Result<bool> {
     let (Some(from), Some(to)) = (files.next(), files.next()) else {
         return Ok(false);
     };
-    copy_export(rt, from.as_str(), to.as_str())
+    copy_export(rt, &from, &to)
 }
 
 // Copies the records of an export to a file that is not there yet. Whether all of the export was read.
-fn copy_export(rt: &HostRuntime, from: &str, to: &str) -> io::Result<bool> {
+fn copy_export(rt: &HostRuntime, from: &str, to: &str) -> anyhow::Result<bool> {
     let Some(export) = or_tell(rt, from, "read", fs::read(rt, from))? else {
         return Ok(false);
     };
     let Some(file) = or_tell(rt, to, "made", File::create_new(rt, to))? else {
         return Ok(false);
     };
-    let mut copying = Copying {
-        file,
-        room: vec![in rt.alloc(); 0; LONGEST]?,
-        copied: 0,
-        refused: 0,
-        bytes: 0,
-    };
-    let whole = visit_export(rt, from, export.as_slice(), &mut copying)?;
+    let mut copying = Copying::new(rt.alloc(), file)?;
+    let whole = visit_export(rt, from, &export, &mut copying)?;
     let Copying {
         copied,
         refused,
@@ -57,23 +65,24 @@ fn copy_export(rt: &HostRuntime, from: &str, to: &str) -> io::Result<bool> {
 
 impl Visit for Copying {
     // Copies a record, or prints what is wrong with it.
-    fn visit(&mut self, rt: &HostRuntime, position: Position<'_>, record: &[u8]) -> io::Result<()> {
+    fn visit(
+        &mut self,
+        rt: &HostRuntime,
+        position: Position<'_>,
+        record: &[u8],
+    ) -> anyhow::Result<()> {
         match copy_record(rt.alloc(), record, &mut self.room) {
             Ok(len) => {
                 self.copied = self.copied.saturating_add(1);
                 self.bytes = self.bytes.saturating_add(len as u64);
-                self.file.write_all(&self.room[..len])
+                self.file.write_all(&self.room[..len])?;
             }
             Err(Uncopied::Refused(WriteFault::Frame(fault))) => {
                 self.refused = self.refused.saturating_add(1);
-                tell_fault(rt, position, fault)
+                tell_fault(rt, position, fault)?;
             }
-            Err(Uncopied::Refused(WriteFault::ShortBuffer)) => Err(io::Error::other(
-                "no room for a record",
-            )),
-            Err(Uncopied::NoMemory) => Err(io::Error::other(
-                "no memory for the fields of a record",
-            )),
+            Err(why) => return Err(why.into()),
         }
+        Ok(())
     }
 }

@@ -24,7 +24,12 @@ impl fmt::Display for Position<'_> {
 
 // What a command does with each record.
 pub(crate) trait Visit {
-    fn visit(&mut self, rt: &HostRuntime, position: Position<'_>, record: &[u8]) -> io::Result<()>;
+    fn visit(
+        &mut self,
+        rt: &HostRuntime,
+        position: Position<'_>,
+        record: &[u8],
+    ) -> anyhow::Result<()>;
 }
 
 // Takes the records of the exports in these files in turn. Whether each was read to its end.
@@ -32,24 +37,20 @@ pub(crate) fn visit_files<V: Visit>(
     rt: &HostRuntime,
     names: Args,
     visitor: &mut V,
-) -> io::Result<bool> {
+) -> anyhow::Result<bool> {
     let mut whole = true;
     for name in names {
-        whole = visit_file(rt, name.as_str(), visitor)? && whole;
+        whole = visit_file(rt, &name, visitor)? && whole;
     }
     Ok(whole)
 }
 
 // Takes the records of the export in a file. Whether it was read to its end.
-pub(crate) fn visit_file<V: Visit>(
-    rt: &HostRuntime,
-    name: &str,
-    visitor: &mut V,
-) -> io::Result<bool> {
+fn visit_file<V: Visit>(rt: &HostRuntime, name: &str, visitor: &mut V) -> anyhow::Result<bool> {
     let Some(export) = or_tell(rt, name, "read", fs::read(rt, name))? else {
         return Ok(false);
     };
-    visit_export(rt, name, export.as_slice(), visitor)
+    visit_export(rt, name, &export, visitor)
 }
 
 // What was opened, or none where that failed, which is printed.
@@ -74,7 +75,7 @@ pub(crate) fn visit_export<V: Visit>(
     name: &str,
     export: &[u8],
     visitor: &mut V,
-) -> io::Result<bool> {
+) -> anyhow::Result<bool> {
     for (index, found) in Records::new(export).enumerate() {
         let at = |byte| Position {
             name,

@@ -52,7 +52,7 @@ impl Command {
     }
 
     // Runs the command. Whether each export was read to its end.
-    fn run(self, rt: &HostRuntime, files: Args) -> io::Result<bool> {
+    fn run(self, rt: &HostRuntime, files: Args) -> anyhow::Result<bool> {
         match self {
             Command::Check => check_files(rt, files),
             Command::Show => visit_files(rt, files, &mut Showing),
@@ -78,7 +78,7 @@ fn command_of(args: &mut Args) -> Option<Command> {
 }
 
 // How the program ends after a command.
-fn finish(rt: &HostRuntime, done: io::Result<bool>) -> io::Result<ExitCode> {
+fn finish(rt: &HostRuntime, done: anyhow::Result<bool>) -> io::Result<ExitCode> {
     match done {
         Ok(true) => Ok(ExitCode::SUCCESS),
         Ok(false) => Ok(ExitCode::FAILURE),

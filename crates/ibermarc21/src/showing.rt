@@ -13,15 +13,21 @@ pub(crate) struct Showing;
 
 impl Visit for Showing {
     // Prints a record, or what is wrong with it.
-    fn visit(&mut self, rt: &HostRuntime, position: Position<'_>, record: &[u8]) -> io::Result<()> {
+    fn visit(
+        &mut self,
+        rt: &HostRuntime,
+        position: Position<'_>,
+        record: &[u8],
+    ) -> anyhow::Result<()> {
         match read(record) {
             Ok(parts) => {
                 println!(rt; "{position}")?;
                 let text = record_text(rt.alloc(), parts)?;
-                rt.stdout().write_all(text.as_slice())
+                rt.stdout().write_all(&text)?;
             }
-            Err(fault) => tell_fault(rt, position, fault),
+            Err(fault) => tell_fault(rt, position, fault)?,
         }
+        Ok(())
     }
 }
 

@@ -10,7 +10,7 @@ pub returns : goal.returns
 returns c =
     let bs = c.args.record.now in
     let is = known (Reads bs) _ _ c.in_ok-parts.ensures in
-    let both = copied bs _ is _ _ _ c.codes.ensures (c.as_slice.ensures.value ∙ c.in_ok-extents.ensures) c.contents.ensures c.args.out.now _ _ c.in_ok-len.ensures.answer c.in_ok-len.ensures.buffer in
+    let both = copied bs _ is _ _ _ c.codes.ensures (c.deref.ensures.value ∙ c.in_ok-extents.ensures) c.contents.ensures c.args.out.now _ _ c.in_ok-len.ensures.answer c.in_ok-len.ensures.buffer in
     record { copy = both.0; within = both.1 }
 
 pub returns-in_err-len : goal.returns-in_err-len
@@ -18,6 +18,6 @@ returns-in_err-len c =
     let bs = c.args.record.now in
     let old = c.args.out.now in
     let is = known (Reads bs) _ _ c.in_ok-parts.ensures in
-    let no = refused bs _ is _ _ _ c.codes.ensures (c.as_slice.ensures.value ∙ c.in_ok-extents.ensures) c.contents.ensures old _ _ c.in_err-len.ensures.answer c.in_err-len.ensures.buffer in
+    let no = refused bs _ is _ _ _ c.codes.ensures (c.deref.ensures.value ∙ c.in_ok-extents.ensures) c.contents.ensures old _ _ c.in_err-len.ensures.answer c.in_err-len.ensures.buffer in
     let told = returned _ _ c.from_residual-in_err-len.ensures.1 in
     record { copy = subst (λ r. Copies bs old r c.write.new.out) (sym told) no; within = subst (λ r. IfOk r (λ n. n ≤ length c.write.new.out)) (sym told) tt }

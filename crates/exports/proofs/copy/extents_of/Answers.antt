@@ -8,6 +8,6 @@ use Rattle.exports.proofs.copy.extents_of.Goals as goal
 
 pub returns : goal.returns
 returns c =
-    let all = YieldsList-from_shown FieldStep seen_field fields_left (λ s t h. ap length h.0) (λ s x t h. h) c.fields.result in
-    let source = subst (YieldsList FieldStep seen_field c.fields.result) c.fields.ensures.left all in
-    items_from_collect c.collect.result c.collect.ensures.ran (YieldsList-from_map _ extent_read (YieldsList-at c.map.ensures.source source) c.map.ensures.closure (λ x r q k. search rules))
+    let left = YieldsList-from_shown FieldStep seen_field fields_left (λ s t h. ap length h.0) (λ s x t h. h) c.fields.result in
+    let all = subst (YieldsList FieldStep seen_field c.fields.result) c.fields.ensures.left left in
+    items_from_collect c.collect.result c.collect.ensures.ran (YieldsList-from_map _ extent_read (YieldsList-at c.map.ensures.source all) c.map.ensures.closure (λ x r q k. search rules))
