@@ -1,9 +1,9 @@
 // The fields of a record, as parts of the caller's bytes.
 ghost use Rattle.std.specs.Prelude.{◌≡◌, ◌-◌, ◌^◌, ◌<◌};
-ghost use Rattle.record.specs.Cursors.{FieldStep, fields_left, seen_content, seen_field};
+ghost use Rattle.record.specs.Cursors.{FieldStep, fields_left, seen_content, seen_field, subfields_left};
 ghost use Rattle.record.specs.Figures.{part};
-ghost use Rattle.record.specs.Reading.{extent_read, field_read, fields_from, held};
-ghost use Rattle.std.specs.Iterator.{at_most};
+ghost use Rattle.record.specs.Reading.{extent_read, field_read, fields_from, held, subfields_held};
+ghost use Rattle.std.specs.Iterator.{item_count};
 
 use crate::extent::Extent;
 use crate::figures::number_at;
@@ -49,6 +49,16 @@ impl<'a> Field<'a> {
             size: self.size,
         }
     }
+
+    // The subfields of a data field; a control field has none.
+    pub fn subfields(&self) -> Subfields<'a>
+        ensures { subfields_left result ≡ subfields_held (seen_field self.now).holds }
+    {
+        match self.content {
+            Content::Control(_) => Subfields::new(b"", 0),
+            Content::Data { subfields, .. } => subfields,
+        }
+    }
 }
 
 impl<'a> Fields<'a> {
@@ -69,7 +79,7 @@ impl<'a> Iterator for Fields<'a> {
 
     ghost next_gives = { FieldStep };
 
-    ghost remaining = { λ s. at_most (s.entries - s.next) };
+    ghost remaining = { item_count fields_left };
 
     fn next(&mut self) -> Option<Field<'a>> {
         let k = self.next;

@@ -5,7 +5,7 @@ ghost use Rattle.record.specs.Rules.{verdict};
 
 use crate::classes::is_code_character;
 use crate::faults::FrameFault;
-use crate::figures::{is_figure_at, number_at};
+use crate::figures::figure_at;
 
 const CODE_POSITIONS: [usize; 8] = [5, 6, 7, 8, 9, 17, 18, 19];
 
@@ -20,15 +20,14 @@ pub fn positions() -> &'static [usize; 8]
 fn length_holds(bytes: &[u8]) -> bool
     ensures { result ≡ length_rule bytes.now }
 {
-    is_figure_at(bytes, 0, 5) && number_at(bytes, 0, 5) == bytes.len()
+    figure_at(bytes, 0, 5) == Some(bytes.len())
 }
 
 // Whether the base is a figure that leaves room for whole entries, and lies before the last byte.
 fn base_holds(bytes: &[u8]) -> bool
     ensures { result ≡ base_rule bytes.now }
 {
-    let base = number_at(bytes, 12, 5);
-    is_figure_at(bytes, 12, 5) && base >= 25 && base % 12 == 1 && base < bytes.len()
+    figure_at(bytes, 12, 5).is_some_and(|base| base >= 25 && base % 12 == 1 && base < bytes.len())
 }
 
 // Whether the widths of what a directory entry has are 4, 5, 0 and 0.
@@ -36,7 +35,7 @@ fn widths_hold(bytes: &[u8]) -> bool
     requires { 24 ≤ length bytes.now }
     ensures { result ≡ widths_rule bytes.now }
 {
-    bytes[20] == b'4' && bytes[21] == b'5' && bytes[22] == b'0' && bytes[23] == b'0'
+    bytes[20..24] == b"4500"[..]
 }
 
 // Whether what begins at this position of the leader is right.
