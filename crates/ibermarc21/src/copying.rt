@@ -86,3 +86,21 @@ impl Visit for Copying {
         Ok(())
     }
 }
+
+#[cfg(test)]
+mod tests {
+    use exports::copy::Uncopied;
+    use record::writing::WriteFault;
+
+    // What ends a copy keeps its words.
+    #[test]
+    fn what_ends_a_copy_in_words(rt: HostRuntime) {
+        let short = anyhow::Error::from(Uncopied::Refused(WriteFault::ShortBuffer));
+        let full = anyhow::Error::from(Uncopied::NoMemory);
+        let text = format!(in rt.alloc(); "{short}\n{full}").expect(&rt, "there is memory");
+        assert_eq!(rt;
+            text.as_str(),
+            "no room for a record\nno memory for the fields of a record"
+        );
+    }
+}

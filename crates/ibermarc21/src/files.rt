@@ -33,10 +33,10 @@ pub(crate) trait Visit {
 }
 
 // Takes the records of the exports in these files in turn. Whether each was read to its end.
-pub(crate) fn visit_files<V: Visit>(
+pub(crate) fn visit_files(
     rt: &HostRuntime,
     names: Args,
-    visitor: &mut V,
+    visitor: &mut impl Visit,
 ) -> anyhow::Result<bool> {
     let mut whole = true;
     for name in names {
@@ -46,7 +46,7 @@ pub(crate) fn visit_files<V: Visit>(
 }
 
 // Takes the records of the export in a file. Whether it was read to its end.
-fn visit_file<V: Visit>(rt: &HostRuntime, name: &str, visitor: &mut V) -> anyhow::Result<bool> {
+fn visit_file(rt: &HostRuntime, name: &str, visitor: &mut impl Visit) -> anyhow::Result<bool> {
     let Some(export) = or_tell(rt, name, "read", fs::read(rt, name))? else {
         return Ok(false);
     };
@@ -70,11 +70,11 @@ pub(crate) fn or_tell<T: Drop>(
 }
 
 // Takes the records of an export up to the first that cannot be taken.
-pub(crate) fn visit_export<V: Visit>(
+pub(crate) fn visit_export(
     rt: &HostRuntime,
     name: &str,
     export: &[u8],
-    visitor: &mut V,
+    visitor: &mut impl Visit,
 ) -> anyhow::Result<bool> {
     for (index, found) in Records::new(export).enumerate() {
         let at = |byte| Position {

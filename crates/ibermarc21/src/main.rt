@@ -12,11 +12,10 @@ use copying::copy_files;
 use files::visit_files;
 use showing::Showing;
 use std::env::Args;
+use std::error::Error;
 use std::process::ExitCode;
 use std::str::FromStr;
-use std::{env, io};
-
-const USAGE: &str = "usage: ibermarc21 check FILE... | show FILE... | copy FILE TO";
+use std::{env, fmt, io};
 
 #[derive(Clone, Copy)]
 enum Command {
@@ -25,19 +24,30 @@ enum Command {
     Copy,
 }
 
-// A word that means no command.
-#[derive(Clone, Copy)]
-struct NoCommand;
+// What is said where the words are no command, or not so many files as it takes.
+#[derive(Clone, Copy, Debug)]
+struct Usage;
+
+impl fmt::Display for Usage {
+    fn fmt<W: fmt::Write>(&self, f: &mut fmt::Formatter<W>) -> fmt::Result {
+        write!(
+            f,
+            "usage: ibermarc21 check FILE... | show FILE... | copy FILE TO"
+        )
+    }
+}
+
+impl Error for Usage {}
 
 impl FromStr for Command {
-    type Err = NoCommand;
+    type Err = Usage;
 
-    fn from_str(word: &str) -> Result<Command, NoCommand> {
+    fn from_str(word: &str) -> Result<Command, Usage> {
         match word {
             "check" => Ok(Command::Check),
             "show" => Ok(Command::Show),
             "copy" => Ok(Command::Copy),
-            _ => Err(NoCommand),
+            _ => Err(Usage),
         }
     }
 }
@@ -63,18 +73,24 @@ impl Command {
 
 fn main(rt: HostRuntime) -> io::Result<ExitCode> {
     let mut args = env::args(&rt)?;
-    let Some(command) = command_of(&mut args) else {
-        eprintln!(rt; "{USAGE}")?;
-        return Ok(ExitCode::FAILURE);
-    };
-    finish(&rt, command.run(&rt, args))
+    match command_of(&mut args) {
+        Ok(command) => finish(&rt, command.run(&rt, args)),
+        Err(usage) => {
+            eprintln!(rt; "{usage}")?;
+            Ok(ExitCode::FAILURE)
+        }
+    }
 }
 
-// The command that the word after the program's name means, where it takes the files that follow.
-fn command_of(args: &mut Args) -> Option<Command> {
-    let word = args.nth(1)?;
-    let command = word.parse::<Command>().ok()?;
-    command.takes(args.len()).then_some(command)
+// The command that the word after the program's name means, where it takes so many files as follow.
+fn command_of(args: &mut Args) -> Result<Command, Usage> {
+    let word = args.nth(1).ok_or(Usage)?;
+    let command = word.parse::<Command>()?;
+    if command.takes(args.len()) {
+        Ok(command)
+    } else {
+        Err(Usage)
+    }
 }
 
 // How the program ends after a command.
