@@ -1,6 +1,6 @@
 // The bytes of the fields.
 ghost use Rattle.std.specs.Prelude.{◌≡◌, ◌+◌, ◌<◌, ◌≤◌, [], length};
-ghost use Rattle.record.specs.Contents.{byte_rule, control_rule, data_rule, faults_of, field_faults, field_place, fields_faults};
+ghost use Rattle.record.specs.Contents.{byte_rule, control_rule, data_rule, faults_of, field_faults, field_place, fields_faults, last};
 ghost use Rattle.record.specs.Directory.{directory_faults, entry_size};
 ghost use Rattle.record.specs.Rules.{verdict};
 
@@ -8,41 +8,46 @@ use crate::classes::{is_code_character, is_subfield_code};
 use crate::directory::Directory;
 use crate::faults::FrameFault;
 use crate::figures::number_at;
+use crate::slices::byte_at;
+
+// Whether byte `i` is the last of a field.
+fn is_last(field: &[u8], i: usize) -> bool
+    ensures { result ≡ last field.now i }
+{
+    i.checked_add(1) == Some(field.len())
+}
 
 // Whether byte `i` of a control field is right.
 fn control_holds(field: &[u8], i: usize) -> bool
-    requires { i < length field.now }
     ensures { result ≡ control_rule field.now i }
 {
-    match field[i] {
-        0x1e => i + 1 == field.len(),
+    match byte_at(field, i) {
+        0x1e => is_last(field, i),
         0x1d | 0x1f => false,
-        _ => i + 1 != field.len(),
+        _ => !is_last(field, i),
     }
 }
 
 // Whether byte `i` of a data field is right.
 fn data_holds(field: &[u8], i: usize) -> bool
-    requires { i < length field.now }
     ensures { result ≡ data_rule field.now i }
 {
-    let byte = field[i];
+    let byte = byte_at(field, i);
     let in_class = match i {
         0 | 1 => is_code_character(byte),
         2 => byte == 0x1f,
-        _ => field[i - 1] != 0x1f || is_subfield_code(byte),
+        _ => byte_at(field, i - 1) != 0x1f || is_subfield_code(byte),
     };
     in_class
-        && if i + 1 == field.len() {
-            byte == 0x1e
-        } else {
-            byte != 0x1d && byte != 0x1e
+        && match byte {
+            0x1e => is_last(field, i),
+            0x1d => false,
+            _ => !is_last(field, i),
         }
 }
 
 // Whether byte `i` of a field with this tag is right.
 fn byte_holds(tag: usize, field: &[u8], i: usize) -> bool
-    requires { i < length field.now }
     ensures { result ≡ byte_rule tag field.now i }
 {
     if tag < 10 {

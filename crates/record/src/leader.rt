@@ -6,6 +6,7 @@ ghost use Rattle.record.specs.Rules.{verdict};
 use crate::classes::is_code_character;
 use crate::faults::FrameFault;
 use crate::figures::figure_at;
+use crate::slices::byte_at;
 
 const CODE_POSITIONS: [usize; 8] = [5, 6, 7, 8, 9, 17, 18, 19];
 
@@ -32,21 +33,19 @@ fn base_holds(bytes: &[u8]) -> bool
 
 // Whether the widths of what a directory entry has are 4, 5, 0 and 0.
 fn widths_hold(bytes: &[u8]) -> bool
-    requires { 24 ≤ length bytes.now }
     ensures { result ≡ widths_rule bytes.now }
 {
-    bytes[20..24] == b"4500"[..]
+    bytes.get(20..24) == Some(b"4500")
 }
 
 // Whether what begins at this position of the leader is right.
 fn position_holds(bytes: &[u8], position: usize) -> bool
-    requires { (24 ≤ length bytes.now) × (position < 24) }
     ensures { result ≡ leader_rule bytes.now position }
 {
     match position {
         0 => length_holds(bytes),
-        5..=9 | 17..=19 => is_code_character(bytes[position]),
-        10 | 11 => bytes[position] == b'2',
+        5..=9 | 17..=19 => is_code_character(byte_at(bytes, position)),
+        10 | 11 => byte_at(bytes, position) == b'2',
         12 => base_holds(bytes),
         20 => widths_hold(bytes),
         _ => true,
@@ -55,7 +54,6 @@ fn position_holds(bytes: &[u8], position: usize) -> bool
 
 // The first fault of the leader, or none.
 pub(crate) fn check_leader(bytes: &[u8]) -> Result<(), FrameFault>
-    requires { 24 ≤ length bytes.now }
     ensures { result ≡ verdict (leader_faults bytes.now) tt }
 {
     match (0..24).find(|position| !position_holds(bytes, *position)) {

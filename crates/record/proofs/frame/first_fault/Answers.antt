@@ -1,5 +1,5 @@
 -- Number by number: the first fault of a stage is the first of all where the stages before it have none.
-use Rattle.std.proofs.Common.{◌≡◌, ◌-◌, Bool, true, false, [], length, Err, Ok, sym, ap, ◌∙◌}
+use Rattle.std.proofs.Common.{◌≡◌, ◌-◌, Bool, true, false, [], length, Ok, sym, ap, ◌∙◌}
 use Rattle.record.specs.declared.faults.FrameFault.TheVariants.{RecordEnd}
 use Rattle.record.specs.Contents.{fields_faults}
 use Rattle.record.specs.Directory.{directory_faults}

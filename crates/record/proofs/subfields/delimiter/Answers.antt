@@ -1,5 +1,5 @@
 -- The search stops at the next 1F, or at the end.
-use Rattle.std.proofs.Common.{◌≡◌, ◌+◌, ℕ, length, drop, refl, sym, ap, ◌∙◌, rules, tests}
+use Rattle.std.proofs.Common.{◌≡◌, ◌+◌, length, refl, sym, ap, ◌∙◌, rules, tests}
 use Rattle.std.proofs.lemmas.Iterator.{IsFirst-from_position, YieldsList-from_slice, index_from_first}
 use Rattle.record.specs.Reading.{piece}
 use Rattle.record.proofs.Pieces.{piece_ends, piece_goes_on}
