@@ -1,3 +1,2 @@
 pub mod Rests
-pub mod Listing
 pub mod Copied

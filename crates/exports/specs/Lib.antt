@@ -1,3 +1,4 @@
 pub mod Walk
 pub mod Totals
 pub mod Copies
+pub mod Words

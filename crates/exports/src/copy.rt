@@ -1,10 +1,11 @@
 // Copying: a record is read, and written anew from its parts.
-ghost use Rattle.std.specs.Prelude.{◌≡◌, ◌≤◌, map, length, IfOk};
+ghost use Rattle.std.specs.Prelude.{◌≡◌, ◌≤◌, map, length, IfOk, Some};
 ghost use Rattle.record.specs.Cursors.{fields_in};
 ghost use Rattle.record.specs.Reading.{extent_read};
 ghost use Rattle.record.specs.declared.writing.WriteFault.TheVariants.{Frame};
 ghost use Rattle.exports.specs.declared.copy.Uncopied.TheVariants.{Refused, NoMemory};
 ghost use Rattle.exports.specs.Copies.{Copies};
+ghost use Rattle.exports.specs.Words.{uncopied_text};
 
 use record::extent::Extent;
 use record::faults::FrameFault;
@@ -12,6 +13,8 @@ use record::parts::RecordParts;
 use record::reading::{Record, read};
 use record::writing::WriteFault;
 use std::alloc::{AllocError, Global};
+use std::error::Error;
+use std::fmt;
 
 // Why a record is not copied.
 #[derive(Clone, Copy, Debug, PartialEq, Eq)]
@@ -22,13 +25,27 @@ pub enum Uncopied {
     NoMemory,
 }
 
+impl fmt::Display for Uncopied {
+    ghost output = { λ why. Some (uncopied_text why) };
+
+    fn fmt<W: fmt::Write>(&self, f: &mut fmt::Formatter<W>) -> fmt::Result {
+        match self {
+            Uncopied::Refused(WriteFault::Frame(fault)) => write!(f, "{fault}"),
+            Uncopied::Refused(WriteFault::ShortBuffer) => write!(f, "no room for a record"),
+            Uncopied::NoMemory => write!(f, "no memory for the fields of a record"),
+        }
+    }
+}
+
+impl Error for Uncopied {}
+
 impl From<FrameFault> for Uncopied {
     ghost from_gives = { λ f u. u ≡ Refused (Frame f) };
 
     fn from(fault: FrameFault) -> Uncopied
         ensures { result ≡ Refused (Frame fault) }
     {
-        Uncopied::Refused(WriteFault::Frame(fault))
+        Self::Refused(WriteFault::Frame(fault))
     }
 }
 
@@ -38,7 +55,7 @@ impl From<WriteFault> for Uncopied {
     fn from(fault: WriteFault) -> Uncopied
         ensures { result ≡ Refused fault }
     {
-        Uncopied::Refused(fault)
+        Self::Refused(fault)
     }
 }
 
@@ -48,7 +65,7 @@ impl From<AllocError> for Uncopied {
     fn from(_: AllocError) -> Uncopied
         ensures { result ≡ NoMemory }
     {
-        Uncopied::NoMemory
+        Self::NoMemory
     }
 }
 
@@ -61,7 +78,7 @@ pub fn copy_record(heap: Global, record: &[u8], out: &mut [u8]) -> Result<usize,
     let extents = extents_of(heap, from)?;
     let parts = RecordParts {
         codes: from.codes(),
-        extents: extents.as_slice(),
+        extents: &extents,
         fields: from.contents(),
     };
     let len = parts.write(out)?;
@@ -72,11 +89,7 @@ pub fn copy_record(heap: Global, record: &[u8], out: &mut [u8]) -> Result<usize,
 fn extents_of(heap: Global, parts: Record<'_>) -> Result<Vec<Extent>, AllocError>
     ensures { IfOk result (λ v. v.items ≡ map extent_read (fields_in parts.entry)) }
 {
-    let mut extents = Vec::new(heap);
-    for field in parts.fields() {
-        extents.push(field.extent())?;
-    }
-    Ok(extents)
+    parts.fields().map(|field| field.extent()).collect(heap)
 }
 
 #[cfg(test)]

@@ -6,7 +6,7 @@ use record::faults::FrameFault;
 use record::frame::Frame;
 
 // The records that passed, those that did not, and the bytes of both. A count that is full stays at its largest value.
-#[derive(Clone, Copy, Debug)]
+#[derive(Clone, Copy, Debug, Default, PartialEq, Eq)]
 pub struct Totals {
     pub good: u64,
     pub bad: u64,
@@ -17,11 +17,7 @@ impl Totals {
     pub fn new() -> Totals
         ensures { result ≡ none }
     {
-        Totals {
-            good: 0,
-            bad: 0,
-            bytes: 0,
-        }
+        Totals::default()
     }
 
     // Counts a record of so many bytes by the answer of its check.

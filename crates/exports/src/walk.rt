@@ -1,9 +1,12 @@
 // The walk over an export: each record in turn, as long as its first five digits say.
 ghost use Rattle.std.specs.Prelude.{◌≡◌, ◌≤◌, length, IfOk, Some};
-ghost use Rattle.exports.specs.Walk.{Steps, Walks, length_of, rest, taken};
+ghost use Rattle.exports.specs.Walk.{Steps, Walks, length_of, rest};
+ghost use Rattle.exports.specs.Words.{stop_text, unread_text};
 ghost use Rattle.std.specs.Iterator.{at_most};
 
 use record::figures::told_length;
+use std::error::Error;
+use std::fmt;
 
 // Why no record can be taken from the rest of an export.
 #[derive(Clone, Copy, Debug, PartialEq, Eq)]
@@ -14,6 +17,24 @@ pub enum Unread {
     Torn { told: usize },
 }
 
+impl fmt::Display for Unread {
+    ghost output = { λ why. Some (unread_text why) };
+
+    fn fmt<W: fmt::Write>(&self, f: &mut fmt::Formatter<W>) -> fmt::Result {
+        match *self {
+            Unread::NoLength => write!(
+                f,
+                "no length of a record in five digits; the rest of the file is not read"
+            ),
+            Unread::Torn { told } => {
+                write!(f, "the file ends before the {told} bytes of the record do")
+            }
+        }
+    }
+}
+
+impl Error for Unread {}
+
 // Where a walk stopped, and why.
 #[derive(Clone, Copy, Debug, PartialEq, Eq)]
 pub struct Stop {
@@ -21,8 +42,19 @@ pub struct Stop {
     pub why: Unread,
 }
 
+impl fmt::Display for Stop {
+    ghost output = { λ stop. Some (stop_text stop) };
+
+    fn fmt<W: fmt::Write>(&self, f: &mut fmt::Formatter<W>) -> fmt::Result {
+        let Stop { place, why } = *self;
+        write!(f, "at byte {place}: {why}")
+    }
+}
+
+impl Error for Stop {}
+
 // A record of an export, and the byte where it begins.
-#[derive(Clone, Copy, Debug)]
+#[derive(Clone, Copy, Debug, PartialEq, Eq)]
 pub struct Offered<'a> {
     pub place: usize,
     pub bytes: &'a [u8],
@@ -40,20 +72,10 @@ pub fn record_length(rest: &[u8]) -> Result<usize, Unread>
     ensures value { result ≡ length_of rest.now }
     ensures within { IfOk result (λ n. (5 ≤ n) × (n ≤ length rest.now)) }
 {
-    match told_length(rest) {
-        Some(told) => fitted(told, rest.len()),
-        None => Err(Unread::NoLength),
-    }
-}
-
-// A told length, where it is that of a record and so many bytes are there.
-fn fitted(told: usize, there: usize) -> Result<usize, Unread>
-    ensures value { result ≡ taken there (Some told) }
-    ensures within { IfOk result (λ n. (5 ≤ n) × (n ≤ there)) }
-{
+    let told = told_length(rest).ok_or(Unread::NoLength)?;
     if told < 5 {
         Err(Unread::NoLength)
-    } else if there < told {
+    } else if rest.len() < told {
         Err(Unread::Torn { told })
     } else {
         Ok(told)
@@ -83,11 +105,11 @@ impl<'a> Iterator for Records<'a> {
         if place >= self.export.len() {
             return None;
         }
-        let rest = &self.export[place..self.export.len()];
+        let rest = &self.export[place..];
         match record_length(rest) {
             Ok(len) => {
-                self.place = place + len;
-                let bytes = &rest[0..len];
+                self.place += len;
+                let bytes = &rest[..len];
                 Some(Ok(Offered { place, bytes }))
             }
             Err(why) => {
@@ -102,49 +124,51 @@ impl<'a> Iterator for Records<'a> {
 mod tests {
     use super::{Offered, Records, Stop, Unread};
 
-    // Where each record begins and how long it is, and where the walk stops.
-    fn place_and_length(found: Option<Result<Offered<'_>, Stop>>) -> (usize, usize) {
-        match found {
-            Some(Ok(record)) => (record.place, record.bytes.len()),
-            Some(Err(stop)) => (stop.place, 0),
-            None => (0, 0),
-        }
-    }
-
     fn first_stop(export: &[u8]) -> Option<Stop> {
-        for found in Records::new(export) {
-            if let Err(stop) = found {
-                return Some(stop);
-            }
-        }
-        None
+        Records::new(export).find_map(Result::err)
     }
 
     #[test]
     fn takes_records_by_their_digits(rt: HostRuntime) {
         let mut records = Records::new(b"00007ab00005");
-        assert_eq!(rt; place_and_length(records.next()), (0, 7));
-        assert_eq!(rt; place_and_length(records.next()), (7, 5));
-        assert!(rt; records.next().is_none());
+        let first = Offered {
+            place: 0,
+            bytes: b"00007ab",
+        };
+        let second = Offered {
+            place: 7,
+            bytes: b"00005",
+        };
+        assert_eq!(rt; records.next(), Some(Ok(first)));
+        assert_eq!(rt; records.next(), Some(Ok(second)));
+        assert_eq!(rt; records.next(), None);
     }
 
     #[test]
     fn stops_where_no_record_begins(rt: HostRuntime) {
-        let place = 7;
-        let no_length = Some(Stop {
-            place,
-            why: Unread::NoLength,
-        });
+        let stop = |why| Some(Stop { place: 7, why });
         assert_eq!(rt; first_stop(b""), None);
-        assert_eq!(rt; first_stop(b"00007ab0000x"), no_length);
-        assert_eq!(rt; first_stop(b"00007ab0000"), no_length);
-        assert_eq!(rt; first_stop(b"00007ab00004"), no_length);
+        assert_eq!(rt; first_stop(b"00007ab0000x"), stop(Unread::NoLength));
+        assert_eq!(rt; first_stop(b"00007ab0000"), stop(Unread::NoLength));
+        assert_eq!(rt; first_stop(b"00007ab00004"), stop(Unread::NoLength));
+        assert_eq!(rt; first_stop(b"00007ab00006"), stop(Unread::Torn { told: 6 }));
+    }
+
+    // The words for each stop.
+    #[test]
+    fn a_stop_in_words(rt: HostRuntime) {
+        let no_length = Stop {
+            place: 7,
+            why: Unread::NoLength,
+        };
+        let torn = Stop {
+            place: 7,
+            why: Unread::Torn { told: 46 },
+        };
+        let text = format!(in rt.alloc(); "{no_length}\n{torn}").expect(&rt, "there is memory");
         assert_eq!(rt;
-            first_stop(b"00007ab00006"),
-            Some(Stop {
-                place,
-                why: Unread::Torn { told: 6 },
-            })
+            text.as_str(),
+            "at byte 7: no length of a record in five digits; the rest of the file is not read\nat byte 7: the file ends before the 46 bytes of the record do"
         );
     }
 }

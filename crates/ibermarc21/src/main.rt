@@ -7,15 +7,15 @@ mod files;
 mod showing;
 mod words;
 
-use checking::Checking;
-use copying::copy_export;
+use checking::check_files;
+use copying::copy_files;
 use files::visit_files;
 use showing::Showing;
 use std::env::Args;
+use std::error::Error;
 use std::process::ExitCode;
-use std::{env, io};
-
-const USAGE: &str = "usage: ibermarc21 check FILE... | show FILE... | copy FILE TO";
+use std::str::FromStr;
+use std::{env, fmt, io};
 
 #[derive(Clone, Copy)]
 enum Command {
@@ -24,60 +24,77 @@ enum Command {
     Copy,
 }
 
+// What is said where the words are no command, or not so many files as it takes.
+#[derive(Clone, Copy, Debug)]
+struct Usage;
+
+impl fmt::Display for Usage {
+    fn fmt<W: fmt::Write>(&self, f: &mut fmt::Formatter<W>) -> fmt::Result {
+        write!(
+            f,
+            "usage: ibermarc21 check FILE... | show FILE... | copy FILE TO"
+        )
+    }
+}
+
+impl Error for Usage {}
+
+impl FromStr for Command {
+    type Err = Usage;
+
+    fn from_str(word: &str) -> Result<Command, Usage> {
+        match word {
+            "check" => Ok(Command::Check),
+            "show" => Ok(Command::Show),
+            "copy" => Ok(Command::Copy),
+            _ => Err(Usage),
+        }
+    }
+}
+
 impl Command {
-    // The command that this word means, where it takes so many files.
-    fn of(word: &str, files: usize) -> Option<Command> {
-        match (word, files) {
-            (_, 0) => None,
-            ("check", _) => Some(Command::Check),
-            ("show", _) => Some(Command::Show),
-            ("copy", 2) => Some(Command::Copy),
-            _ => None,
+    // Whether it takes so many files.
+    fn takes(self, files: usize) -> bool {
+        match self {
+            Command::Check | Command::Show => files > 0,
+            Command::Copy => files == 2,
         }
     }
 
     // Runs the command. Whether each export was read to its end.
-    fn run(self, rt: &HostRuntime, files: Args) -> io::Result<bool> {
+    fn run(self, rt: &HostRuntime, files: Args) -> anyhow::Result<bool> {
         match self {
-            Command::Check => check(rt, files),
+            Command::Check => check_files(rt, files),
             Command::Show => visit_files(rt, files, &mut Showing),
-            Command::Copy => copy(rt, files),
+            Command::Copy => copy_files(rt, files),
         }
-    }
-}
-
-fn check(rt: &HostRuntime, files: Args) -> io::Result<bool> {
-    let mut checking = Checking::new();
-    let whole = visit_files(rt, files, &mut checking)?;
-    checking.report(rt)?;
-    Ok(whole)
-}
-
-fn copy(rt: &HostRuntime, mut files: Args) -> io::Result<bool> {
-    match (files.next(), files.next()) {
-        (Some(from), Some(to)) => copy_export(rt, from.as_str(), to.as_str()),
-        _ => Ok(false),
     }
 }
 
 fn main(rt: HostRuntime) -> io::Result<ExitCode> {
     let mut args = env::args(&rt)?;
-    let _ = args.next();
-    let command = match args.next() {
-        Some(word) => Command::of(word.as_str(), args.len()),
-        None => None,
-    };
-    match command {
-        Some(command) => finish(&rt, command.run(&rt, args)),
-        None => {
-            eprintln!(rt; "{USAGE}")?;
+    match command_of(&mut args) {
+        Ok(command) => finish(&rt, command.run(&rt, args)),
+        Err(usage) => {
+            eprintln!(rt; "{usage}")?;
             Ok(ExitCode::FAILURE)
         }
     }
 }
 
+// The command that the word after the program's name means, where it takes so many files as follow.
+fn command_of(args: &mut Args) -> Result<Command, Usage> {
+    let word = args.nth(1).ok_or(Usage)?;
+    let command = word.parse::<Command>()?;
+    if command.takes(args.len()) {
+        Ok(command)
+    } else {
+        Err(Usage)
+    }
+}
+
 // How the program ends after a command.
-fn finish(rt: &HostRuntime, done: io::Result<bool>) -> io::Result<ExitCode> {
+fn finish(rt: &HostRuntime, done: anyhow::Result<bool>) -> io::Result<ExitCode> {
     match done {
         Ok(true) => Ok(ExitCode::SUCCESS),
         Ok(false) => Ok(ExitCode::FAILURE),

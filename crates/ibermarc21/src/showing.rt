@@ -13,25 +13,26 @@ pub(crate) struct Showing;
 
 impl Visit for Showing {
     // Prints a record, or what is wrong with it.
-    fn visit(&mut self, rt: &HostRuntime, position: Position<'_>, record: &[u8]) -> io::Result<()> {
+    fn visit(
+        &mut self,
+        rt: &HostRuntime,
+        position: Position<'_>,
+        record: &[u8],
+    ) -> anyhow::Result<()> {
         match read(record) {
             Ok(parts) => {
-                let Position {
-                    name,
-                    ordinal,
-                    byte,
-                } = position;
-                println!(rt; "{name}: record {ordinal} at byte {byte}")?;
+                println!(rt; "{position}")?;
                 let text = record_text(rt.alloc(), parts)?;
-                rt.stdout().write_all(text.as_slice())
+                rt.stdout().write_all(&text)?;
             }
-            Err(fault) => tell_fault(rt, position, fault),
+            Err(fault) => tell_fault(rt, position, fault)?,
         }
+        Ok(())
     }
 }
 
 // The leader in a line, and then a line a field.
-fn record_text(heap: Global, record: Record<'_>) -> Result<Vec<u8>, AllocError> {
+fn record_text(heap: Global, record: Record<'_>) -> io::Result<Vec<u8>> {
     let mut text = Vec::new(heap);
     text.extend_from_slice(b"LDR ")?;
     push_codes(&mut text, record.leader())?;
@@ -42,9 +43,10 @@ fn record_text(heap: Global, record: Record<'_>) -> Result<Vec<u8>, AllocError> 
     Ok(text)
 }
 
-// The tag, and a control field's bytes or the indicators and subfields.
-fn push_field(text: &mut Vec<u8>, field: Field<'_>) -> Result<(), AllocError> {
-    push_tag(text, field.tag)?;
+// The tag in three digits, and a control field's bytes or the indicators and subfields.
+fn push_field(text: &mut Vec<u8>, field: Field<'_>) -> io::Result<()> {
+    let tag = field.tag;
+    write!(text, "{tag:03} ")?;
     match field.content {
         Content::Control(bytes) => push_data(text, bytes)?,
         Content::Data {
@@ -64,47 +66,25 @@ fn push_field(text: &mut Vec<u8>, field: Field<'_>) -> Result<(), AllocError> {
     Ok(())
 }
 
-// A tag in three digits, and a blank.
-fn push_tag(text: &mut Vec<u8>, tag: u16) -> Result<(), AllocError> {
-    let digits = [tag / 100 % 10, tag / 10 % 10, tag % 10];
-    for digit in digits {
-        text.push(b'0' + digit as u8)?;
-    }
-    text.push(b' ')?;
-    Ok(())
-}
-
 // Codes, with # for the blank.
 fn push_codes(text: &mut Vec<u8>, codes: &[u8]) -> Result<(), AllocError> {
-    for code in codes {
-        text.push(match *code {
+    text.extend(
+        codes.iter().map(|code| match *code {
             b' ' => b'#',
             code => code,
-        })?;
-    }
-    Ok(())
+        }),
+    )
 }
 
 // Bytes as they are, but for those below the blank, which would break the line: <0A> for a line feed.
-fn push_data(text: &mut Vec<u8>, bytes: &[u8]) -> Result<(), AllocError> {
+fn push_data(text: &mut Vec<u8>, bytes: &[u8]) -> io::Result<()> {
     for byte in bytes {
         match *byte {
-            byte @ 0..=0x1f => {
-                text.extend_from_slice(&[b'<', hex_digit(byte / 16), hex_digit(byte % 16), b'>'])?
-            }
+            byte @ 0..=0x1f => write!(text, "<{byte:02X}>")?,
             byte => text.push(byte)?,
         }
     }
     Ok(())
-}
-
-// A hexadecimal digit.
-fn hex_digit(n: u8) -> u8 {
-    match n {
-        0..=9 => b'0' + n,
-        10..=15 => b'A' - 10 + n,
-        _ => b'?',
-    }
 }
 
 #[cfg(test)]

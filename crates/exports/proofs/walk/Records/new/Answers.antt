@@ -1,7 +1,6 @@
--- A walk begins with the whole export.
-use Rattle.std.proofs.Common.{refl}
+-- What a walk gives and what is left after it are the whole export.
 use Rattle.exports.proofs.Rests.{walked}
 use Rattle.exports.proofs.walk.Records.new.Goals as goal
 
-pub returns : goal.returns
-returns c = record { place = refl; whole = refl; walks = walked _ }
+pub returns-clause-walks : goal.returns-clause-walks
+returns-clause-walks c = walked _
