@@ -12,7 +12,7 @@ returns-in-5-to-9 c =
     let inside : code_position p ≡ true = grind (arith, nat_tests) in
     let at : place_of p ≡ p - 5 = grind (arith, nat_tests) in
     let within : p - 5 < length c.args.self.now.leader = omega (arith, c.type_inv.self) in
-    c.has.ensures ∙ set_at _ _ p _ _ inside at within
+    c.contains.ensures.value ∙ set_at _ _ p _ _ inside at within
 
 pub returns-in-17-to-19 : goal.returns-in-17-to-19
 returns-in-17-to-19 c =
@@ -20,4 +20,4 @@ returns-in-17-to-19 c =
     let inside : code_position p ≡ true = grind (arith, nat_tests) in
     let at : place_of p ≡ p - 12 = grind (arith, nat_tests) in
     let within : p - 12 < length c.args.self.now.leader = omega (arith, c.type_inv.self) in
-    c.has-in-17-to-19.ensures ∙ set_at _ _ p _ _ inside at within
+    c.contains-in-17-to-19.ensures.value ∙ set_at _ _ p _ _ inside at within
