@@ -11,47 +11,32 @@ use crate::format::Format;
 use record::fields::{Content, Field, Fields};
 use record::leader::positions;
 use record::subfields::Subfields;
-use rows::occurs::Occurs;
 
 // 23: each leader code is admitted at its position.
 pub(crate) fn check_leader<F: Format>(format: &F, codes: &[u8; 8]) -> Result<(), FormatFault>
     ensures { result ≡ verdict (leader_faults (F.Format.meaning format.now) codes.now) tt }
 {
-    for (i, code) in codes.iter().enumerate() {
-        let position = positions()[i];
-        if !format.admits_code(position, *code) {
-            return Err(FormatFault::LeaderCode {
-                position,
-                code: *code,
-            });
-        }
-    }
-    Ok(())
-}
-
-// Whether the format has this tag.
-fn has_tag<F: Format>(format: &F, tag: u16) -> bool
-    ensures { result ≡ present ((F.Format.meaning format.now).occurs tag) }
-{
-    match format.tag_occurs(tag) {
-        Occurs::Absent => false,
-        Occurs::Once | Occurs::Many => true,
+    let mut placed = positions().iter().zip(codes);
+    match placed.find(|(position, code)| !format.admits_code(**position, **code)) {
+        Some((position, code)) => Err(FormatFault::LeaderCode {
+            position: *position,
+            code: *code,
+        }),
+        None => Ok(()),
     }
 }
 
 // 24: each tag is present.
-pub(crate) fn check_tags<F: Format>(format: &F, fields: Fields<'_>) -> Result<(), FormatFault>
+pub(crate) fn check_tags<F: Format>(format: &F, mut fields: Fields<'_>) -> Result<(), FormatFault>
     ensures { result ≡ verdict (flat_map (tag_fault (F.Format.meaning format.now)) (fields_left fields.entry)) tt }
 {
-    for field in fields {
-        if !has_tag(format, field.tag) {
-            return Err(FormatFault::Tag {
-                place: field.entry,
-                tag: field.tag,
-            });
-        }
+    match fields.find(|field| !format.tag_occurs(field.tag).is_present()) {
+        Some(field) => Err(FormatFault::Tag {
+            place: field.entry,
+            tag: field.tag,
+        }),
+        None => Ok(()),
     }
-    Ok(())
 }
 
 // One indicator, at its place.
@@ -90,40 +75,30 @@ fn check_both<F: Format>(format: &F, field: Field<'_>) -> Result<(), FormatFault
 }
 
 // 25: each indicator is admitted.
-pub(crate) fn check_indicators<F: Format>(format: &F, fields: Fields<'_>) -> Result<(), FormatFault>
+pub(crate) fn check_indicators<F: Format>(format: &F, mut fields: Fields<'_>) -> Result<(), FormatFault>
     requires { AllByRecursion (λ f. f.place < 100000) (fields_left fields) }
     ensures { result ≡ verdict (flat_map (indicator_faults (F.Format.meaning format.now)) (fields_left fields.entry)) tt }
 {
-    for field in fields {
-        check_both(format, field)?;
-    }
-    Ok(())
-}
-
-// Whether the format has this subfield code at this tag.
-fn has_subfield<F: Format>(format: &F, tag: u16, code: u8) -> bool
-    ensures { result ≡ present ((F.Format.meaning format.now).subfield tag code) }
-{
-    match format.subfield_occurs(tag, code) {
-        Occurs::Absent => false,
-        Occurs::Once | Occurs::Many => true,
-    }
+    fields.try_for_each(|field| check_both(format, field))
 }
 
 // The codes of these subfields of a field.
-fn check_codes<F: Format>(format: &F, tag: u16, subfields: Subfields<'_>) -> Result<(), FormatFault>
+fn check_codes<F: Format>(
+    format: &F,
+    tag: u16,
+    mut subfields: Subfields<'_>,
+) -> Result<(), FormatFault>
     ensures { result ≡ verdict (flat_map (subfield_fault (F.Format.meaning format.now) tag) (subfields_left subfields.entry)) tt }
 {
-    for subfield in subfields {
-        if !has_subfield(format, tag, subfield.code) {
-            return Err(FormatFault::Subfield {
-                place: subfield.place,
-                tag,
-                code: subfield.code,
-            });
-        }
+    let unknown = subfields.find(|subfield| !format.subfield_occurs(tag, subfield.code).is_present());
+    match unknown {
+        Some(subfield) => Err(FormatFault::Subfield {
+            place: subfield.place,
+            tag,
+            code: subfield.code,
+        }),
+        None => Ok(()),
     }
-    Ok(())
 }
 
 // The subfield codes of a field; a control field has none.
@@ -137,11 +112,8 @@ fn check_held<F: Format>(format: &F, field: Field<'_>) -> Result<(), FormatFault
 }
 
 // 26: each subfield code is admitted.
-pub(crate) fn check_subfields<F: Format>(format: &F, fields: Fields<'_>) -> Result<(), FormatFault>
+pub(crate) fn check_subfields<F: Format>(format: &F, mut fields: Fields<'_>) -> Result<(), FormatFault>
     ensures { result ≡ verdict (flat_map (subfield_faults (F.Format.meaning format.now)) (fields_left fields.entry)) tt }
 {
-    for field in fields {
-        check_held(format, field)?;
-    }
-    Ok(())
+    fields.try_for_each(|field| check_held(format, field))
 }

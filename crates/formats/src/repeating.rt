@@ -61,14 +61,11 @@ fn check_repeated_held<F: Format>(format: &F, field: Field<'_>) -> Result<(), Fo
 // 27: no field has a second subfield of a code allowed once.
 pub(crate) fn check_repeated_subfields<F: Format>(
     format: &F,
-    fields: Fields<'_>,
+    mut fields: Fields<'_>,
 ) -> Result<(), FormatFault>
     ensures { result ≡ verdict (flat_map (repeated_subfields (F.Format.meaning format.now)) (fields_left fields.entry)) tt }
 {
-    for field in fields {
-        check_repeated_held(format, field)?;
-    }
-    Ok(())
+    fields.try_for_each(|field| check_repeated_held(format, field))
 }
 
 // Whether a field with this tag may occur only once.
