@@ -5,17 +5,15 @@ use Rattle.std.proofs.lemmas.Bool.{cond-true, cond-false, eq-eqb, ne_eqb}
 use Rattle.record.specs.Figures.{part}
 use Rattle.record.specs.Reading.{PlacedSubfield, piece, subfield_in, subfields_in}
 
+-- a piece ends at a 1F, and is a byte longer for each other byte
+pub piece_ends : (b : ℕ) (bs : List ℕ) → b ≡ 31 → length (piece (b ∷ bs)) ≡ 0
+piece_ends b bs mark = ap length (cond-true _ _ _ (eq-eqb b 31 mark))
+
+pub piece_goes_on : (b : ℕ) (bs : List ℕ) → (b ≡ 31 → ⊥) → length (piece (b ∷ bs)) ≡ length (piece bs) + 1
+piece_goes_on b bs other = ap length (cond-false _ _ _ (ne_eqb b 31 other)) ∙ sym (add-one _)
+
 module _ (bs : List ℕ) (i : ℕ) where
-  pub none_left : length bs ≤ i → length (piece (drop i bs)) ≡ 0
-  none_left h = ap length (at_drop_all piece bs i h)
-
   module _ (within : i < length bs) where
-    pub one_more : (get_or bs i 0 ≡ 31 → ⊥) → length (piece (drop i bs)) ≡ length (piece (drop (i + 1) bs)) + 1
-    one_more other = ap length (at_drop_more piece bs i 0 within ∙ cond-false _ _ _ (ne_eqb _ 31 other)) ∙ sym (add-one _)
-
-    pub at_mark : get_or bs i 0 ≡ 31 → length (piece (drop i bs)) ≡ 0
-    at_mark mark = ap length (at_drop_more piece bs i 0 within ∙ cond-true _ _ _ (eq-eqb _ 31 mark))
-
     -- the subfield that begins here, and those after it
     pub begun : get_or bs i 0 ≡ 31 → subfields_in i (drop i bs) ≡ record { place = i; subfield = subfield_in (drop (i + 1) bs) } ∷ subfields_in (i + 1) (drop (i + 1) bs)
     begun mark = at_drop_more (subfields_in i) bs i 0 within ∙ cond-true _ _ _ (eq-eqb _ 31 mark)
@@ -55,16 +53,15 @@ pub record Turn (bs : List ℕ) (from place end code : ℕ) (rest body : List �
   pub ended : end ≡ place + 1 + length (piece (drop (place + 1) bs))
   pub rest_is : rest ≡ part bs (place + 1) (end - place - 1)
   pub code_is : code ≡ get_or rest 0 0
-  pub body_is : body ≡ part rest 1 (length rest)
+  pub body_is : body ≡ drop 1 rest
 
 pub turned : (bs : List ℕ) (from place end code : ℕ) (rest body : List ℕ) → Turn bs from place end code rest body → subfields_in from (drop from bs) ≡ record { place = place; subfield = record { code = code; body = body } } ∷ subfields_in end (drop end bs)
 turned bs from place end code rest body t =
     let after = drop (place + 1) bs in
     let size : end - place - 1 ≡ length (piece after) = omega arith in
     let whole : rest ≡ piece after = t.rest_is ∙ ap (λ n. take n after) size ∙ sym (piece_front after) in
-    let short : length (drop 1 rest) ≤ length rest = rw (length-drop 1 rest) (omega arith) in
     let first : get_or (piece after) 0 0 ≡ code = ap (λ l. get_or l 0 0) (sym whole) ∙ sym t.code_is in
-    let others : drop 1 (piece after) ≡ body = ap (drop 1) (sym whole) ∙ sym (t.body_is ∙ take_all (length rest) (drop 1 rest) short) in
+    let others : drop 1 (piece after) ≡ body = ap (drop 1) (sym whole) ∙ sym t.body_is in
     skipped bs from place t.found
     ∙ begun bs place t.within t.mark
     ∙ (λ i. record { place = place; subfield = record { code = first i; body = others i } } ∷ skipped bs (place + 1) end t.ended i)

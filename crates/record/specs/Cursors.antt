@@ -1,5 +1,6 @@
 -- What the cursors over a record hand out, and what is left for them. Assumes nothing.
-use Rattle.std.specs.Prelude.{◌≡◌, ℕ, ◌-◌, List, [], ◌∷◌, drop, Some, None, Option}
+use Rattle.std.specs.Prelude.{ℕ, ◌-◌, List, drop, Option}
+use Rattle.std.specs.Iterator.{YieldsFirstBy}
 use Rattle.record.specs.declared.fields.Content.{Content}
 use Rattle.record.specs.declared.fields.Content.TheVariants.{Control, Data}
 use Rattle.record.specs.declared.fields.Field.{Field}
@@ -38,12 +39,8 @@ abbrev pub fields_in : Record → List PlacedField
 fields_in r = fields_from r.bytes.now 0 r.frame.entries
 
 -- one step of a cursor: it hands out the first of what is left, or nothing is left
-abbrev pub HandsOut : {S A B : Type 0} → (S → List B) → (A → B) → S → Option A → S → Type 0
-HandsOut left seen s None t = (left s ≡ []) × (left t ≡ [])
-HandsOut left seen s (Some x) t = left s ≡ seen x ∷ left t
-
 abbrev pub SubfieldStep : Subfields → Option Subfield → Subfields → Type 0
-SubfieldStep = HandsOut subfields_left seen_subfield
+SubfieldStep = YieldsFirstBy seen_subfield subfields_left
 
 abbrev pub FieldStep : Fields → Option Field → Fields → Type 0
-FieldStep = HandsOut fields_left seen_field
+FieldStep = YieldsFirstBy seen_field fields_left

@@ -1,10 +1,10 @@
 -- Figures: numbers in decimal digits. Assumes nothing.
 use Rattle.std.specs.Prelude.{ℕ, ◌+◌, ◌-◌, ◌*◌, Bool, true, cond, ◌&&◌, List, [], ◌∷◌, length, take, drop, Some, None, Option, nat_le}
+use Rattle.std.specs.List.{list_all}
 use Rattle.record.specs.Classes.{digit}
 
 abbrev pub all_digits : List ℕ → Bool
-all_digits [] = true
-all_digits (b ∷ bs) = digit b && all_digits bs
+all_digits bs = list_all digit bs
 
 -- the digits of bs after those of n
 abbrev pub number_from : ℕ → List ℕ → ℕ

@@ -3,7 +3,7 @@ ghost use Rattle.std.specs.Prelude.{◌≡◌, ◌-◌, ◌^◌, ◌<◌};
 ghost use Rattle.record.specs.Cursors.{FieldStep, fields_left, seen_content, seen_field};
 ghost use Rattle.record.specs.Figures.{part};
 ghost use Rattle.record.specs.Reading.{extent_read, field_read, fields_from, held};
-ghost use Rattle.std.specs.Iterator.{at_most};
+ghost use Rattle.std.specs.Iterator.{item_count};
 
 use crate::extent::Extent;
 use crate::figures::number_at;
@@ -69,7 +69,7 @@ impl<'a> Iterator for Fields<'a> {
 
     ghost next_gives = { FieldStep };
 
-    ghost remaining = { λ s. at_most (s.entries - s.next) };
+    ghost remaining = { item_count fields_left };
 
     fn next(&mut self) -> Option<Field<'a>> {
         let k = self.next;

@@ -20,12 +20,7 @@ pub fn told_length(bytes: &[u8]) -> Option<usize>
 fn is_figure(figure: &[u8]) -> bool
     ensures { result ≡ all_digits figure.now }
 {
-    for byte in figure {
-        if !is_digit(*byte) {
-            return false;
-        }
-    }
-    true
+    figure.iter().all(|byte| is_digit(*byte))
 }
 
 // The number that the figure stands for.

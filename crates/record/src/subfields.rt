@@ -2,9 +2,9 @@
 ghost use Rattle.std.specs.Prelude.{◌≡◌, ◌+◌, ◌-◌, ◌<◌, length, drop, slice_index};
 ghost use Rattle.record.specs.Cursors.{SubfieldStep, subfields_left};
 ghost use Rattle.record.specs.Reading.{piece, subfields_in};
-ghost use Rattle.std.specs.Iterator.{at_most};
+ghost use Rattle.std.specs.Iterator.{item_count};
 
-use crate::slices::{byte_at, part_of};
+use crate::slices::{byte_at, part_of, rest_of};
 
 // The byte that begins a subfield.
 const SUBFIELD_MARK: u8 = 0x1f;
@@ -38,7 +38,7 @@ impl<'a> Iterator for Subfields<'a> {
 
     ghost next_gives = { SubfieldStep };
 
-    ghost remaining = { λ s. at_most (length s.bytes.now - s.place) };
+    ghost remaining = { item_count subfields_left };
 
     fn next(&mut self) -> Option<Subfield<'a>> {
         let place = delimiter(self.bytes, self.place);
@@ -51,7 +51,7 @@ impl<'a> Iterator for Subfields<'a> {
         Some(Subfield {
             place,
             code: byte_at(rest, 0),
-            body: part_of(rest, 1, rest.len()),
+            body: rest_of(rest, 1),
         })
     }
 }
@@ -61,9 +61,7 @@ fn delimiter(bytes: &[u8], place: usize) -> usize
     ensures value { result ≡ place + length (piece (drop place bytes.now)) }
     ensures stops { result < length bytes.now → slice_index bytes.now result ≡ 31 }
 {
-    let mut at = place;
-    while at < bytes.len() && bytes[at] != SUBFIELD_MARK {
-        at += 1;
-    }
-    at
+    let rest = rest_of(bytes, place);
+    let before = rest.iter().position(|byte| *byte == SUBFIELD_MARK);
+    place + before.unwrap_or(rest.len())
 }

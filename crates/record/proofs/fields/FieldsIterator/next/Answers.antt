@@ -1,5 +1,5 @@
 -- One step of the cursor of fields, and that less is left after it.
-use Rattle.std.proofs.Common.{◌≡◌, ℕ, suc, ◌+◌, ◌-◌, ◌<◌, ◌≤◌, List, [], ◌∷◌, sym, ap, ◌∙◌, add-one, arith, rules}
+use Rattle.std.proofs.Common.{◌≡◌, ℕ, suc, ◌+◌, ◌-◌, ◌<◌, ◌≤◌, List, [], ◌∷◌, length, sym, ap, ◌∙◌, add-one, arith}
 use Rattle.record.specs.Reading.{field_read, fields_from}
 use Rattle.record.proofs.fields.FieldsIterator.next.Goals as goal
 use Rattle.std.proofs.iter.Next.{firm}
@@ -12,17 +12,15 @@ none_left : (bs : List ℕ) (k n : ℕ) → n ≤ k → fields_from bs k (n - k)
 unfolding fields_from
 none_left bs k n h = let e : n - k ≡ 0 = omega arith in rw e
 
-pub returns-then-k-self : goal.returns-then-k-self
-returns-then-k-self c =
+pub returns-then-k-self-clause-steps : goal.returns-then-k-self-clause-steps
+returns-then-k-self-clause-steps c =
     let s = c.args.self.now in
     let none = none_left s.bytes.now s.next s.entries c.if-k-self.true in
-    record { steps = (none, none); goes = firm (tt) (λ h. search rules) }
+    (none, none)
 
 pub returns : goal.returns
 returns c =
     let s = c.args.self.now in
     let rest = fields_from s.bytes.now (s.next + 1) (s.entries - (s.next + 1)) in
-    record {
-      steps = one_more s.bytes.now s.next s.entries c.if-k-self.false ∙ ap (λ f. f ∷ rest) (sym c.field_at.ensures);
-      goes = firm ((tt, tt, omega (arith, c.if-k-self.false))) (λ h. search rules);
-    }
+    let step = one_more s.bytes.now s.next s.entries c.if-k-self.false ∙ ap (λ f. f ∷ rest) (sym c.field_at.ensures) in
+    record { steps = step; goes = firm (tt, tt, omega (arith, ap length step)) (λ _. tt) }

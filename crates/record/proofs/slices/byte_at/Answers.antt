@@ -1,7 +1,0 @@
--- Past the end there is no byte.
-use Rattle.std.proofs.Common.{sym}
-use Rattle.std.proofs.lemmas.List.{get_or_past}
-use Rattle.record.proofs.slices.byte_at.Goals as goal
-
-pub returns-else-place-bytes : goal.returns-else-place-bytes
-returns-else-place-bytes c = sym (get_or_past _ _ 0 c.if-place-bytes.false)
