@@ -1,3 +1,5 @@
-pub mod Marks
+pub mod Each
+pub mod Searches
+pub mod Repeats
 pub mod Stages
 pub mod Told

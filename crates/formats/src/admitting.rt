@@ -1,6 +1,6 @@
 // 23 to 26: leader codes, tags, indicators and subfield codes that the format does not admit.
 ghost use Rattle.std.specs.Prelude.{◌≡◌, ◌<◌};
-ghost use Rattle.std.specs.List.{flat_map, AllByRecursion};
+ghost use Rattle.std.specs.List.{All, flat_map};
 ghost use Rattle.record.specs.Cursors.{fields_left, seen_field, subfields_left};
 ghost use Rattle.record.specs.Rules.{verdict};
 ghost use Rattle.rows.specs.Table.{present};
@@ -76,7 +76,7 @@ fn check_both<F: Format>(format: &F, field: Field<'_>) -> Result<(), FormatFault
 
 // 25: each indicator is admitted.
 pub(crate) fn check_indicators<F: Format>(format: &F, mut fields: Fields<'_>) -> Result<(), FormatFault>
-    requires { AllByRecursion (λ f. f.place < 100000) (fields_left fields) }
+    requires { All (λ f. f.place < 100000) (fields_left fields) }
     ensures { result ≡ verdict (flat_map (indicator_faults (F.Format.meaning format.now)) (fields_left fields.entry)) tt }
 {
     fields.try_for_each(|field| check_both(format, field))

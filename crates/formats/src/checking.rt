@@ -1,6 +1,6 @@
 // The check of a record in a format.
 ghost use Rattle.std.specs.Prelude.{◌≡◌, ◌<◌};
-ghost use Rattle.std.specs.List.{AllByRecursion};
+ghost use Rattle.std.specs.List.{All};
 ghost use Rattle.record.specs.Cursors.{fields_left};
 ghost use Rattle.record.specs.Rules.{Verdict, verdict};
 ghost use Rattle.record.specs.Trips.{Reads};
@@ -28,7 +28,7 @@ fn check_parts<F: Format>(
     codes: &[u8; 8],
     fields: Fields<'_>,
 ) -> Result<(), FormatFault>
-    requires { AllByRecursion (λ f. f.place < 100000) (fields_left fields) }
+    requires { All (λ f. f.place < 100000) (fields_left fields) }
     ensures { result ≡ verdict (parts_faults (F.Format.meaning format.now) codes.now (fields_left fields.entry)) tt }
 {
     check_leader(format, codes)?;

@@ -3,24 +3,13 @@ ghost use Rattle.std.specs.Prelude.{◌≡◌};
 ghost use Rattle.std.specs.List.{flat_map};
 ghost use Rattle.record.specs.Cursors.{fields_left, seen_field, subfields_left};
 ghost use Rattle.record.specs.Rules.{verdict};
-ghost use Rattle.rows.specs.Table.{only_once};
 ghost use Rattle.formats.specs.Faults.{repeated_codes, repeated_fields, repeated_subfields};
 
 use crate::faults::FormatFault;
 use crate::format::Format;
+use crate::marks::Marks;
 use record::fields::{Content, Field, Fields};
 use record::subfields::Subfields;
-use rows::occurs::Occurs;
-
-// Whether a subfield with this code may occur only once at this tag.
-fn is_code_once<F: Format>(format: &F, tag: u16, code: u8) -> bool
-    ensures { result ≡ only_once ((F.Format.meaning format.now).subfield tag code) }
-{
-    match format.subfield_occurs(tag, code) {
-        Occurs::Once => true,
-        Occurs::Absent | Occurs::Many => false,
-    }
-}
 
 // These subfields of a field, whose codes are marked as they come.
 fn check_repeated_codes<F: Format>(
@@ -30,20 +19,16 @@ fn check_repeated_codes<F: Format>(
 ) -> Result<(), FormatFault>
     ensures { result ≡ verdict (repeated_codes (F.Format.meaning format.now) tag (subfields_left subfields.entry)) tt }
 {
-    let mut seen = [false; 256];
+    let mut marks = Marks::<256>::new();
     for subfield in subfields {
         let code = subfield.code;
-        if !is_code_once(format, tag, code) {
-            continue;
-        }
-        if seen[code as usize] {
+        if format.subfield_occurs(tag, code).is_once() && marks.mark(usize::from(code)) {
             return Err(FormatFault::RepeatedSubfield {
                 place: subfield.place,
                 tag,
                 code,
             });
         }
-        seen[code as usize] = true;
     }
     Ok(())
 }
@@ -68,16 +53,6 @@ pub(crate) fn check_repeated_subfields<F: Format>(
     fields.try_for_each(|field| check_repeated_held(format, field))
 }
 
-// Whether a field with this tag may occur only once.
-fn is_tag_once<F: Format>(format: &F, tag: u16) -> bool
-    ensures { result ≡ only_once ((F.Format.meaning format.now).occurs tag) }
-{
-    match format.tag_occurs(tag) {
-        Occurs::Once => true,
-        Occurs::Absent | Occurs::Many => false,
-    }
-}
-
 // 28: no second field has a tag allowed once. The tags are marked as they come; a format has none above 999.
 pub(crate) fn check_repeated_fields<F: Format>(
     format: &F,
@@ -85,19 +60,15 @@ pub(crate) fn check_repeated_fields<F: Format>(
 ) -> Result<(), FormatFault>
     ensures { result ≡ verdict (repeated_fields (F.Format.meaning format.now) (fields_left fields.entry)) tt }
 {
-    let mut seen = [false; 1000];
+    let mut marks = Marks::<1000>::new();
     for field in fields {
         let tag = field.tag;
-        if !is_tag_once(format, tag) {
-            continue;
-        }
-        if seen[tag as usize] {
+        if format.tag_occurs(tag).is_once() && marks.mark(usize::from(tag)) {
             return Err(FormatFault::RepeatedField {
                 place: field.entry,
                 tag,
             });
         }
-        seen[tag as usize] = true;
     }
     Ok(())
 }

@@ -1,19 +1,26 @@
--- Each turn passes a code that the tag has, or has found the first that it lacks.
-use Rattle.std.proofs.Common.{ap}
-use Rattle.record.specs.Cursors.{subfields_left}
-use Rattle.record.proofs.Walks.{begins, broken, ends, goes_on, held, moved, stops}
+-- The search over the subfields gives the first whose code the tag lacks.
+use Rattle.std.proofs.Common.{◌≡◌, not, option_map, rules, tests}
+use Rattle.std.specs.List.{find}
+use Rattle.std.proofs.lemmas.Iterator.Consumers.{YieldsList-from_first}
+use Rattle.std.proofs.lemmas.Iterator.Search.{find_from_yields_List}
+use Rattle.record.specs.Cursors.{seen_subfield, subfields_left}
+use Rattle.rows.specs.Table.{present}
+use Rattle.formats.specs.Faults.{code_of}
+use Rattle.formats.specs.declared.faults.FormatFault.TheVariants.{Subfield}
+use Rattle.formats.proofs.Searches.{found}
+use Rattle.formats.proofs.admitting.check_codes.Given.{Over}
 use Rattle.formats.proofs.admitting.check_codes.Goals as goal
+use Rattle.formats.proofs.admitting.check_codes.Goals.{After-find-unknown}
 
-pub loop-subfield-init : goal.loop-subfield-init
-loop-subfield-init g c = begins _ _
+first : (g : Over) (c : After-find-unknown g) → option_map seen_subfield c.find-unknown.result ≡ find (λ s. not (present ((g.F.Format.meaning c.args.format.now).subfield c.args.tag (code_of s)))) (subfields_left c.args.subfields)
+first g c = find_from_yields_List _ c.find-unknown.new.self _ c.find-unknown.result c.find-unknown.ensures.ran (YieldsList-from_first seen_subfield subfields_left (subfields_left c.args.subfields) cc) (λ s b q k. search (rules, tests))
 
-pub loop-subfield-preserved : goal.loop-subfield-preserved
-loop-subfield-preserved g c = goes_on c.loop-subfield.invariant c.in-Some.ensures.steps (held _ c.if-not-has_subfield.ensures)
+pub returns-in-Some : goal.returns-in-Some
+returns-in-Some g c =
+    found (λ s. present ((g.F.Format.meaning c.args.format.now).subfield c.args.tag (code_of s))) (λ s. Subfield s.place c.args.tag (code_of s)) seen_subfield (subfields_left c.args.subfields) _ _ c.in-Some.is
+    (first g (goal.at.returns-in-Some g c).After-find-unknown)
 
-pub returns-then-not-has_subfield : goal.returns-then-not-has_subfield
-returns-then-not-has_subfield g c =
-    stops (moved c.loop-subfield.invariant (ap subfields_left c.into_iter-subfield-iterator.ensures.into_iter_gives)) c.in-Some.ensures.steps (broken c.if-not-has_subfield.ensures)
-
-pub returns : goal.returns
-returns g c =
-    ends (moved c.loop-subfield.invariant (ap subfields_left c.into_iter-subfield-iterator.ensures.into_iter_gives)) c.in-None.ensures.steps.0
+pub returns-in-None : goal.returns-in-None
+returns-in-None g c =
+    found (λ s. present ((g.F.Format.meaning c.args.format.now).subfield c.args.tag (code_of s))) (λ s. Subfield s.place c.args.tag (code_of s)) seen_subfield (subfields_left c.args.subfields) _ _ c.in-None.is
+    (first g (goal.at.returns-in-None g c).After-find-unknown)

@@ -1,27 +1,12 @@
--- Each turn passes a field whose indicators are admitted, or has found the first that is not.
-use Rattle.std.proofs.Common.{◌<◌, sym, ap, ◌∙◌, subst}
-use Rattle.std.specs.List.{AllByRecursion}
-use Rattle.record.specs.Cursors.{fields_left}
-use Rattle.record.proofs.Verdicts.{returned}
-use Rattle.record.proofs.Walks.{begins, ends, moved, passes, stops}
+-- The first fault of a field is the first of all fields, which begin at small places.
+use Rattle.std.proofs.Common.{◌<◌, rules, tests}
+use Rattle.record.specs.Cursors.{fields_left, seen_field}
+use Rattle.formats.specs.Faults.{indicator_faults}
+use Rattle.formats.proofs.Each.{answered, holds_of_next}
 use Rattle.formats.proofs.admitting.check_indicators.Goals as goal
 
-pub loop-field-init : goal.loop-field-init
-loop-field-init g c = (begins _ _, subst (λ s. AllByRecursion (λ f. f.place < 100000) (fields_left s)) (sym c.into_iter-field-iterator.ensures.into_iter_gives) c.requires)
-
-pub check_both-requires : goal.check_both-requires
-check_both-requires g c = (subst (AllByRecursion (λ f. f.place < 100000)) c.in-Some.ensures.steps c.loop-field.invariant.1).0
-
-pub loop-field-preserved : goal.loop-field-preserved
-loop-field-preserved g c = (
-  passes c.loop-field.invariant.0 c.in-Some.ensures.steps c.in_ok-check_both.ensures,
-  (subst (AllByRecursion (λ f. f.place < 100000)) c.in-Some.ensures.steps c.loop-field.invariant.1).1,
-)
-
-pub returns-in_err-check_both : goal.returns-in_err-check_both
-returns-in_err-check_both g c =
-    returned _ _ c.from_residual.ensures.1 ∙ stops (moved c.loop-field.invariant.0 (ap fields_left c.into_iter-field-iterator.ensures.into_iter_gives)) c.in-Some.ensures.steps c.in_err-check_both.ensures
+pub try_for_each-requires-clause-callable : goal.try_for_each-requires-clause-callable
+try_for_each-requires-clause-callable g c = record { at = λ xs t q f u went calls step. let small = holds_of_next fields_left seen_field (λ f. f.place < 100000) xs c.args.fields t u f c.requires went step in search (rules, tests) }
 
 pub returns : goal.returns
-returns g c =
-    ends (moved c.loop-field.invariant.0 (ap fields_left c.into_iter-field-iterator.ensures.into_iter_gives)) c.in-None.ensures.steps.0
+returns g c = answered fields_left seen_field (indicator_faults (g.F.Format.meaning c.args.format.now)) _ (λ f v q k. search (rules, tests)) c.args.fields c.try_for_each.new.self c.try_for_each.result c.try_for_each.ensures.ran

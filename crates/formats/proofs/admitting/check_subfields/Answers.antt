@@ -1,20 +1,9 @@
--- Each turn passes a field whose subfield codes are admitted, or has found the first that is not.
-use Rattle.std.proofs.Common.{ap, ◌∙◌}
-use Rattle.record.specs.Cursors.{fields_left}
-use Rattle.record.proofs.Verdicts.{returned}
-use Rattle.record.proofs.Walks.{begins, ends, moved, passes, stops}
+-- The first fault of a field is the first of all fields.
+use Rattle.std.proofs.Common.{rules, tests}
+use Rattle.record.specs.Cursors.{fields_left, seen_field}
+use Rattle.formats.specs.Faults.{subfield_faults}
+use Rattle.formats.proofs.Each.{answered}
 use Rattle.formats.proofs.admitting.check_subfields.Goals as goal
 
-pub loop-field-init : goal.loop-field-init
-loop-field-init g c = begins _ _
-
-pub loop-field-preserved : goal.loop-field-preserved
-loop-field-preserved g c = passes c.loop-field.invariant c.in-Some.ensures.steps c.in_ok-check_held.ensures
-
-pub returns-in_err-check_held : goal.returns-in_err-check_held
-returns-in_err-check_held g c =
-    returned _ _ c.from_residual.ensures.1
-    ∙ stops (moved c.loop-field.invariant (ap fields_left c.into_iter-field-iterator.ensures.into_iter_gives)) c.in-Some.ensures.steps c.in_err-check_held.ensures
-
 pub returns : goal.returns
-returns g c = ends (moved c.loop-field.invariant (ap fields_left c.into_iter-field-iterator.ensures.into_iter_gives)) c.in-None.ensures.steps.0
+returns g c = answered fields_left seen_field (subfield_faults (g.F.Format.meaning c.args.format.now)) _ (λ f v q k. search (rules, tests)) c.args.fields c.try_for_each.new.self c.try_for_each.result c.try_for_each.ensures.ran

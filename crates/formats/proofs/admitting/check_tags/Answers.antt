@@ -1,19 +1,25 @@
--- Each turn passes a tag that the format has, or has found the first that it lacks.
-use Rattle.std.proofs.Common.{ap}
-use Rattle.record.specs.Cursors.{fields_left}
-use Rattle.record.proofs.Walks.{begins, broken, ends, goes_on, held, moved, stops}
+-- The search over the fields gives the first whose tag the format lacks.
+use Rattle.std.proofs.Common.{◌≡◌, not, option_map, rules, tests}
+use Rattle.std.specs.List.{find}
+use Rattle.std.proofs.lemmas.Iterator.Consumers.{YieldsList-from_first}
+use Rattle.std.proofs.lemmas.Iterator.Search.{find_from_yields_List}
+use Rattle.record.specs.Cursors.{fields_left, seen_field}
+use Rattle.rows.specs.Table.{present}
+use Rattle.formats.specs.declared.faults.FormatFault.TheVariants.{Tag}
+use Rattle.formats.proofs.Searches.{found}
+use Rattle.formats.proofs.admitting.check_tags.Given.{Over}
 use Rattle.formats.proofs.admitting.check_tags.Goals as goal
+use Rattle.formats.proofs.admitting.check_tags.Goals.{After-find}
 
-pub loop-field-init : goal.loop-field-init
-loop-field-init g c = begins _ _
+first : (g : Over) (c : After-find g) → option_map seen_field c.find.result ≡ find (λ f. not (present ((g.F.Format.meaning c.args.format.now).occurs f.tag))) (fields_left c.args.fields)
+first g c = find_from_yields_List _ c.find.new.self _ c.find.result c.find.ensures.ran (YieldsList-from_first seen_field fields_left (fields_left c.args.fields) cc) (λ f b q k. search (rules, tests))
 
-pub loop-field-preserved : goal.loop-field-preserved
-loop-field-preserved g c = goes_on c.loop-field.invariant c.in-Some.ensures.steps (held _ c.if-not-has_tag.ensures)
+pub returns-in-Some : goal.returns-in-Some
+returns-in-Some g c =
+    found (λ f. present ((g.F.Format.meaning c.args.format.now).occurs f.tag)) (λ f. Tag f.entry f.tag) seen_field (fields_left c.args.fields) _ _ c.in-Some.is
+    (first g (goal.at.returns-in-Some g c).After-find)
 
-pub returns-then-not-has_tag : goal.returns-then-not-has_tag
-returns-then-not-has_tag g c =
-    stops (moved c.loop-field.invariant (ap fields_left c.into_iter-field-iterator.ensures.into_iter_gives)) c.in-Some.ensures.steps (broken c.if-not-has_tag.ensures)
-
-pub returns : goal.returns
-returns g c =
-    ends (moved c.loop-field.invariant (ap fields_left c.into_iter-field-iterator.ensures.into_iter_gives)) c.in-None.ensures.steps.0
+pub returns-in-None : goal.returns-in-None
+returns-in-None g c =
+    found (λ f. present ((g.F.Format.meaning c.args.format.now).occurs f.tag)) (λ f. Tag f.entry f.tag) seen_field (fields_left c.args.fields) _ _ c.in-None.is
+    (first g (goal.at.returns-in-None g c).After-find)
