@@ -1,5 +1,5 @@
 -- Figures: numbers in decimal digits. Assumes nothing.
-use Rattle.std.specs.Prelude.{ℕ, ◌+◌, ◌-◌, ◌*◌, Bool, true, cond, ◌&&◌, List, [], ◌∷◌, length, take, drop, Some, None, Option, nat_le}
+use Rattle.std.specs.Prelude.{ℕ, ◌+◌, ◌-◌, ◌*◌, Bool, cond, ◌&&◌, List, [], ◌∷◌, length, take, drop, Some, None, Option, nat_le}
 use Rattle.std.specs.List.{list_all}
 use Rattle.record.specs.Classes.{digit}
 
@@ -17,6 +17,10 @@ number bs = number_from 0 bs
 -- n bytes from p on
 abbrev pub part : List ℕ → ℕ → ℕ → List ℕ
 part bs p n = take n (drop p bs)
+
+-- the number that bytes tell, where all of them are digits
+abbrev pub figure_told : List ℕ → Option ℕ
+figure_told bs = cond (all_digits bs) (Some (number bs)) None
 
 -- the number in the first five bytes, where they are five digits
 abbrev pub length_figure : List ℕ → Option ℕ

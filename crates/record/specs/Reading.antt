@@ -31,6 +31,11 @@ pub data Held : Type 0 where
   bytes : List ℕ → Held
   coded : ℕ → ℕ → List PlacedSubfield → Held
 
+-- the subfields that it holds; a control field has none
+abbrev pub subfields_held : Held → List PlacedSubfield
+subfields_held (bytes bs) = []
+subfields_held (coded i j ss) = ss
+
 -- what a field with this tag holds that begins at p, without the 1E that ends it
 abbrev pub held : ℕ → ℕ → List ℕ → Held
 held tag p bs =

@@ -1,48 +1,53 @@
 // The bytes of the fields.
-ghost use Rattle.std.specs.Prelude.{◌≡◌, ◌+◌, ◌*◌, ◌<◌, ◌≤◌, length};
-ghost use Rattle.record.specs.Contents.{byte_rule, control_rule, data_rule, faults_of, field_faults, field_place, fields_faults};
-ghost use Rattle.record.specs.Directory.{entry_size, sizes_before};
+ghost use Rattle.std.specs.Prelude.{◌≡◌, ◌+◌, ◌<◌, ◌≤◌, [], length};
+ghost use Rattle.record.specs.Contents.{byte_rule, control_rule, data_rule, faults_of, field_faults, field_place, fields_faults, last};
+ghost use Rattle.record.specs.Directory.{directory_faults, entry_size};
 ghost use Rattle.record.specs.Rules.{verdict};
-ghost use Rattle.record.specs.Leader.{base, entry_count};
 
 use crate::classes::{is_code_character, is_subfield_code};
+use crate::directory::Directory;
 use crate::faults::FrameFault;
 use crate::figures::number_at;
+use crate::slices::byte_at;
+
+// Whether byte `i` is the last of a field.
+fn is_last(field: &[u8], i: usize) -> bool
+    ensures { result ≡ last field.now i }
+{
+    i.checked_add(1) == Some(field.len())
+}
 
 // Whether byte `i` of a control field is right.
 fn control_holds(field: &[u8], i: usize) -> bool
-    requires { i < length field.now }
     ensures { result ≡ control_rule field.now i }
 {
-    match field[i] {
-        0x1e => i + 1 == field.len(),
+    match byte_at(field, i) {
+        0x1e => is_last(field, i),
         0x1d | 0x1f => false,
-        _ => i + 1 != field.len(),
+        _ => !is_last(field, i),
     }
 }
 
 // Whether byte `i` of a data field is right.
 fn data_holds(field: &[u8], i: usize) -> bool
-    requires { i < length field.now }
     ensures { result ≡ data_rule field.now i }
 {
-    let byte = field[i];
+    let byte = byte_at(field, i);
     let in_class = match i {
         0 | 1 => is_code_character(byte),
         2 => byte == 0x1f,
-        _ => field[i - 1] != 0x1f || is_subfield_code(byte),
+        _ => byte_at(field, i - 1) != 0x1f || is_subfield_code(byte),
     };
     in_class
-        && if i + 1 == field.len() {
-            byte == 0x1e
-        } else {
-            byte != 0x1d && byte != 0x1e
+        && match byte {
+            0x1e => is_last(field, i),
+            0x1d => false,
+            _ => !is_last(field, i),
         }
 }
 
 // Whether byte `i` of a field with this tag is right.
 fn byte_holds(tag: usize, field: &[u8], i: usize) -> bool
-    requires { i < length field.now }
     ensures { result ≡ byte_rule tag field.now i }
 {
     if tag < 10 {
@@ -57,35 +62,35 @@ pub(crate) fn check_field(tag: usize, field: &[u8], place: usize) -> Result<(), 
     requires { place + length field.now ≤ 99999 }
     ensures { result ≡ verdict (field_faults tag field.now place) tt }
 {
-    for i in 0..field.len() {
-        if !byte_holds(tag, field, i) {
-            return Err(FrameFault::Field { place: place + i });
+    match (0..field.len()).find(|i| !byte_holds(tag, field, *i)) {
+        Some(i) => Err(FrameFault::Field { place: place + i }),
+        None => Ok(()),
+    }
+}
+
+impl<'a> Directory<'a> {
+    // The first fault of field `k`, which begins at this place, or the place after it.
+    fn check_next(&self, k: usize, place: usize) -> Result<usize, FrameFault>
+        requires entry { k < self.now.entries }
+        requires begins { place ≡ field_place self.now.bytes.now k }
+        requires ends { place + entry_size self.now.bytes.now k ≤ length self.now.bytes.now }
+        ensures { result ≡ verdict (faults_of self.now.bytes.now k) (place + entry_size self.now.bytes.now k) }
+    {
+        let tag = number_at(self.bytes, 24 + 12 * k, 3);
+        let size = number_at(self.bytes, 24 + 12 * k + 3, 4);
+        check_field(tag, &self.bytes[place..place + size], place)?;
+        Ok(place + size)
+    }
+
+    // The first fault among the fields, or none.
+    pub(crate) fn check_fields(&self) -> Result<(), FrameFault>
+        requires { directory_faults self.now.bytes.now ≡ [] }
+        ensures { result ≡ verdict (fields_faults self.now.bytes.now) tt }
+    {
+        let mut place = 25 + 12 * self.entries;
+        for k in 0..self.entries {
+            place = self.check_next(k, place)?;
         }
+        Ok(())
     }
-    Ok(())
-}
-
-// The first fault of field `k`, which begins at this place, or the place after it.
-fn check_next(bytes: &[u8], k: usize, place: usize) -> Result<usize, FrameFault>
-    requires entry { (36 + 12 * k ≤ length bytes.now) × (length bytes.now ≤ 99999) }
-    requires field { (place ≡ field_place bytes.now k) × (place + entry_size bytes.now k ≤ length bytes.now) }
-    ensures { result ≡ verdict (faults_of bytes.now k) (place + entry_size bytes.now k) }
-{
-    let tag = number_at(bytes, 24 + 12 * k, 3);
-    let size = number_at(bytes, 24 + 12 * k + 3, 4);
-    check_field(tag, &bytes[place..place + size], place)?;
-    Ok(place + size)
-}
-
-// The first fault among the fields, or none.
-pub(crate) fn check_fields(bytes: &[u8], entries: usize) -> Result<(), FrameFault>
-    requires counted { (entries ≡ entry_count bytes.now) × (base bytes.now ≡ 25 + 12 * entries) }
-    requires filled { (base bytes.now + sizes_before bytes.now entries + 1 ≡ length bytes.now) × (length bytes.now ≤ 99999) }
-    ensures { result ≡ verdict (fields_faults bytes.now) tt }
-{
-    let mut place = 25 + 12 * entries;
-    for k in 0..entries {
-        place = check_next(bytes, k, place)?;
-    }
-    Ok(())
 }

@@ -1,61 +1,81 @@
 // The directory of a record.
-ghost use Rattle.std.specs.Prelude.{◌≡◌, ◌+◌, ◌*◌, ◌<◌, ◌≤◌, length};
+ghost use Rattle.std.specs.Prelude.{◌≡◌, ◌+◌, ◌*◌, ◌<◌, ◌≤◌, true, [], length};
 ghost use Rattle.record.specs.Directory.{directory_end_rule, directory_faults, entry_faults, sizes_before, starts_at};
-ghost use Rattle.record.specs.Leader.{base, entry_count};
+ghost use Rattle.record.specs.Frame.{size_rule};
+ghost use Rattle.record.specs.Leader.{base, entry_count, leader_faults};
 ghost use Rattle.record.specs.Rules.{over, verdict};
 
 use crate::faults::FrameFault;
 use crate::figures::{is_figure_at, number_at};
 
-// Whether entry `k` is right, where the lengths before it add up to `before`.
-fn entry_holds(bytes: &[u8], k: usize, before: usize) -> bool
-    requires { (36 + 12 * k ≤ length bytes.now) × (length bytes.now ≤ 99999) }
-    ensures { result ≡ starts_at bytes.now k before }
-{
-    let place = 24 + 12 * k;
-    is_figure_at(bytes, place, 12)
-        && number_at(bytes, place, 3) > 0
-        && number_at(bytes, place + 3, 4) > 0
-        && number_at(bytes, place + 7, 5) == before
+// The directory of a record whose length and leader hold, in the record's bytes.
+#[derive(Clone, Copy)]
+pub(crate) struct Directory<'a> {
+    pub(crate) bytes: &'a [u8],
+    pub(crate) entries: usize,
+    ghost counted: { entries ≡ entry_count bytes.now },
+    ghost based: { base bytes.now ≡ 25 + 12 * entries },
+    ghost inside: { base bytes.now < length bytes.now },
+    ghost short: { length bytes.now ≤ 99999 },
 }
 
-// The first fault among the entries, or their lengths added up.
-fn check_entries(bytes: &[u8], entries: usize) -> Result<usize, FrameFault>
-    requires { (24 + 12 * entries ≤ length bytes.now) × (length bytes.now ≤ 99999) }
-    ensures { result ≡ verdict (over (entry_faults bytes.now) 0 entries) (sizes_before bytes.now entries) }
-{
-    let mut before = 0;
-    for k in 0..entries {
+impl<'a> Directory<'a> {
+    // The directory that the leader tells of.
+    pub(crate) fn new(bytes: &'a [u8]) -> Directory<'a>
+        requires sized { size_rule bytes.now ≡ true }
+        requires led { leader_faults bytes.now ≡ [] }
+        ensures { result.bytes.now ≡ bytes.now }
+    {
+        let entries = (number_at(bytes, 12, 5) - 25) / 12;
+        Directory { bytes, entries }
+    }
+
+    // Whether entry `k` is right, where the lengths before it add up to `before`.
+    fn entry_holds(&self, k: usize, before: usize) -> bool
+        requires { k < self.now.entries }
+        ensures { result ≡ starts_at self.now.bytes.now k before }
+    {
         let place = 24 + 12 * k;
-        if !entry_holds(bytes, k, before) {
-            return Err(FrameFault::Entry { place });
+        is_figure_at(self.bytes, place, 12)
+            && number_at(self.bytes, place, 3) > 0
+            && number_at(self.bytes, place + 3, 4) > 0
+            && number_at(self.bytes, place + 7, 5) == before
+    }
+
+    // The first fault among the entries, or their lengths added up.
+    fn check_entries(&self) -> Result<usize, FrameFault>
+        ensures { result ≡ verdict (over (entry_faults self.now.bytes.now) 0 self.now.entries) (sizes_before self.now.bytes.now self.now.entries) }
+    {
+        let mut before = 0;
+        for k in 0..self.entries {
+            let place = 24 + 12 * k;
+            if !self.entry_holds(k, before) {
+                return Err(FrameFault::Entry { place });
+            }
+            before += number_at(self.bytes, place + 3, 4);
         }
-        before += number_at(bytes, place + 3, 4);
+        Ok(before)
     }
-    Ok(before)
-}
 
-// Whether the directory ends where it should, and the fields, `sum` bytes in all, fill the record up to its last byte.
-fn end_holds(bytes: &[u8], entries: usize, sum: usize) -> bool
-    requires counted { (entries ≡ entry_count bytes.now) × (base bytes.now ≡ 25 + 12 * entries) }
-    requires inside { (base bytes.now < length bytes.now) × (sum ≡ sizes_before bytes.now entries) }
-    ensures { result ≡ directory_end_rule bytes.now }
-{
-    let end = 24 + 12 * entries;
-    bytes[end] == 0x1e && sum == bytes.len() - end - 2
-}
-
-// The first fault of the directory, or none.
-pub(crate) fn check_directory(bytes: &[u8], entries: usize) -> Result<(), FrameFault>
-    requires counted { (entries ≡ entry_count bytes.now) × (base bytes.now ≡ 25 + 12 * entries) }
-    requires inside { (base bytes.now < length bytes.now) × (length bytes.now ≤ 99999) }
-    ensures { result ≡ verdict (directory_faults bytes.now) tt }
-{
-    let sum = check_entries(bytes, entries)?;
-    if !end_holds(bytes, entries, sum) {
-        return Err(FrameFault::DirectoryEnd {
-            place: 24 + 12 * entries,
-        });
+    // Whether the directory ends where it should, and the fields, `sum` bytes in all, fill the record up to its last byte.
+    fn end_holds(&self, sum: usize) -> bool
+        requires { sum ≡ sizes_before self.now.bytes.now self.now.entries }
+        ensures { result ≡ directory_end_rule self.now.bytes.now }
+    {
+        let end = 24 + 12 * self.entries;
+        self.bytes[end] == 0x1e && sum == self.bytes.len() - end - 2
     }
-    Ok(())
+
+    // The first fault of the directory, or none.
+    pub(crate) fn check(&self) -> Result<(), FrameFault>
+        ensures { result ≡ verdict (directory_faults self.now.bytes.now) tt }
+    {
+        let sum = self.check_entries()?;
+        if !self.end_holds(sum) {
+            return Err(FrameFault::DirectoryEnd {
+                place: 24 + 12 * self.entries,
+            });
+        }
+        Ok(())
+    }
 }

@@ -1,8 +1,8 @@
 // The fields of a record, as parts of the caller's bytes.
 ghost use Rattle.std.specs.Prelude.{◌≡◌, ◌-◌, ◌^◌, ◌<◌};
-ghost use Rattle.record.specs.Cursors.{FieldStep, fields_left, seen_content, seen_field};
+ghost use Rattle.record.specs.Cursors.{FieldStep, fields_left, seen_content, seen_field, subfields_left};
 ghost use Rattle.record.specs.Figures.{part};
-ghost use Rattle.record.specs.Reading.{extent_read, field_read, fields_from, held};
+ghost use Rattle.record.specs.Reading.{extent_read, field_read, fields_from, held, subfields_held};
 ghost use Rattle.std.specs.Iterator.{item_count};
 
 use crate::extent::Extent;
@@ -47,6 +47,16 @@ impl<'a> Field<'a> {
         Extent {
             tag: self.tag,
             size: self.size,
+        }
+    }
+
+    // The subfields of a data field; a control field has none.
+    pub fn subfields(&self) -> Subfields<'a>
+        ensures { subfields_left result ≡ subfields_held (seen_field self.now).holds }
+    {
+        match self.content {
+            Content::Control(_) => Subfields::new(b"", 0),
+            Content::Data { subfields, .. } => subfields,
         }
     }
 }

@@ -1,6 +1,6 @@
 // Figures: numbers written in decimal digits.
 ghost use Rattle.std.specs.Prelude.{◌≡◌, ◌+◌, ◌*◌, ◌^◌, ◌<◌, ◌≤◌, length};
-ghost use Rattle.record.specs.Figures.{all_digits, length_figure, number, part};
+ghost use Rattle.record.specs.Figures.{all_digits, figure_told, length_figure, number, part};
 
 use crate::classes::is_digit;
 use crate::slices::part_of;
@@ -9,11 +9,23 @@ use crate::slices::part_of;
 pub fn told_length(bytes: &[u8]) -> Option<usize>
     ensures { result ≡ length_figure bytes.now }
 {
-    if bytes.len() >= 5 && is_figure_at(bytes, 0, 5) {
-        Some(number_at(bytes, 0, 5))
-    } else {
-        None
-    }
+    figure_of(bytes.get(..5)?)
+}
+
+// The number that the bytes tell, or none where one of them is no digit.
+fn figure_of(figure: &[u8]) -> Option<usize>
+    requires { length figure.now ≤ 5 }
+    ensures { result ≡ figure_told figure.now }
+{
+    is_figure(figure).then(|| number_of(figure))
+}
+
+// The number that so many bytes from this place on tell, or none where one of them is no digit.
+pub(crate) fn figure_at(bytes: &[u8], place: usize, size: usize) -> Option<usize>
+    requires { size ≤ 5 }
+    ensures { result ≡ figure_told (part bytes.now place size) }
+{
+    figure_of(part_of(bytes, place, size))
 }
 
 // Whether every byte is a digit.

@@ -1,14 +1,12 @@
 // The frame check.
-ghost use Rattle.std.specs.Prelude.{◌≡◌, ◌≤◌, length, MatchResult};
+ghost use Rattle.std.specs.Prelude.{◌≡◌, MatchResult};
 ghost use Rattle.record.specs.Broken.{FirstBroken, NoneBroken};
 ghost use Rattle.record.specs.Formed.{LaidOut};
 ghost use Rattle.record.specs.Frame.{end_rule, frame_faults, frame_of, size_rule};
 ghost use Rattle.record.specs.Rules.{verdict};
 
-use crate::contents::check_fields;
-use crate::directory::check_directory;
+use crate::directory::Directory;
 use crate::faults::FrameFault;
-use crate::figures::number_at;
 use crate::leader::check_leader;
 
 // What the leader of a record whose frame holds says of its directory.
@@ -30,18 +28,14 @@ impl Frame {
 fn size_holds(bytes: &[u8]) -> bool
     ensures { result ≡ size_rule bytes.now }
 {
-    match bytes.len() {
-        26..=99_999 => true,
-        _ => false,
-    }
+    (26..=99_999).contains(&bytes.len())
 }
 
 // Whether the last byte ends the record.
 fn end_holds(bytes: &[u8]) -> bool
-    requires { 1 ≤ length bytes.now }
     ensures { result ≡ end_rule bytes.now }
 {
-    bytes[bytes.len() - 1] == 0x1d
+    bytes.last() == Some(&0x1d)
 }
 
 // The frame check: the first fault, by number and then by place, or the frame where it holds.
@@ -61,15 +55,15 @@ fn first_fault(bytes: &[u8]) -> Result<Frame, FrameFault>
         return Err(FrameFault::Length);
     }
     check_leader(bytes)?;
-    let entries = (number_at(bytes, 12, 5) - 25) / 12;
-    check_directory(bytes, entries)?;
-    check_fields(bytes, entries)?;
+    let directory = Directory::new(bytes);
+    directory.check()?;
+    directory.check_fields()?;
     if !end_holds(bytes) {
         return Err(FrameFault::RecordEnd {
             place: bytes.len() - 1,
         });
     }
     Ok(Frame {
-        entries: entries as u16,
+        entries: directory.entries as u16,
     })
 }

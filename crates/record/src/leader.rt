@@ -5,7 +5,8 @@ ghost use Rattle.record.specs.Rules.{verdict};
 
 use crate::classes::is_code_character;
 use crate::faults::FrameFault;
-use crate::figures::{is_figure_at, number_at};
+use crate::figures::figure_at;
+use crate::slices::byte_at;
 
 const CODE_POSITIONS: [usize; 8] = [5, 6, 7, 8, 9, 17, 18, 19];
 
@@ -20,34 +21,31 @@ pub fn positions() -> &'static [usize; 8]
 fn length_holds(bytes: &[u8]) -> bool
     ensures { result ≡ length_rule bytes.now }
 {
-    is_figure_at(bytes, 0, 5) && number_at(bytes, 0, 5) == bytes.len()
+    figure_at(bytes, 0, 5) == Some(bytes.len())
 }
 
 // Whether the base is a figure that leaves room for whole entries, and lies before the last byte.
 fn base_holds(bytes: &[u8]) -> bool
     ensures { result ≡ base_rule bytes.now }
 {
-    let base = number_at(bytes, 12, 5);
-    is_figure_at(bytes, 12, 5) && base >= 25 && base % 12 == 1 && base < bytes.len()
+    figure_at(bytes, 12, 5).is_some_and(|base| base >= 25 && base % 12 == 1 && base < bytes.len())
 }
 
 // Whether the widths of what a directory entry has are 4, 5, 0 and 0.
 fn widths_hold(bytes: &[u8]) -> bool
-    requires { 24 ≤ length bytes.now }
     ensures { result ≡ widths_rule bytes.now }
 {
-    bytes[20] == b'4' && bytes[21] == b'5' && bytes[22] == b'0' && bytes[23] == b'0'
+    bytes.get(20..24) == Some(b"4500")
 }
 
 // Whether what begins at this position of the leader is right.
 fn position_holds(bytes: &[u8], position: usize) -> bool
-    requires { (24 ≤ length bytes.now) × (position < 24) }
     ensures { result ≡ leader_rule bytes.now position }
 {
     match position {
         0 => length_holds(bytes),
-        5..=9 | 17..=19 => is_code_character(bytes[position]),
-        10 | 11 => bytes[position] == b'2',
+        5..=9 | 17..=19 => is_code_character(byte_at(bytes, position)),
+        10 | 11 => byte_at(bytes, position) == b'2',
         12 => base_holds(bytes),
         20 => widths_hold(bytes),
         _ => true,
@@ -56,7 +54,6 @@ fn position_holds(bytes: &[u8], position: usize) -> bool
 
 // The first fault of the leader, or none.
 pub(crate) fn check_leader(bytes: &[u8]) -> Result<(), FrameFault>
-    requires { 24 ≤ length bytes.now }
     ensures { result ≡ verdict (leader_faults bytes.now) tt }
 {
     match (0..24).find(|position| !position_holds(bytes, *position)) {

@@ -14,6 +14,7 @@ use crate::faults::FrameFault;
 use crate::fields::Fields;
 use crate::figures::number_at;
 use crate::frame::{Frame, check};
+use crate::leader::positions;
 use crate::slices::{byte_at, part_of};
 
 // A record whose frame was checked, over the caller's bytes.
@@ -46,17 +47,7 @@ impl<'a> Record<'a> {
     pub fn codes(&self) -> [u8; 8]
         ensures { result ≡ codes_of (bytes_in self.now) }
     {
-        let bytes = self.bytes;
-        [
-            byte_at(bytes, 5),
-            byte_at(bytes, 6),
-            byte_at(bytes, 7),
-            byte_at(bytes, 8),
-            byte_at(bytes, 9),
-            byte_at(bytes, 17),
-            byte_at(bytes, 18),
-            byte_at(bytes, 19),
-        ]
+        positions().map(|position| byte_at(self.bytes, position))
     }
 
     // The fields in the order of their entries.
@@ -85,60 +76,39 @@ mod tests {
     use crate::examples::record_a;
     use crate::faults::FrameFault;
     use crate::fields::{Content, Field};
-    use crate::subfields::Subfield;
 
     // Field `k` of a record.
     fn field(record: &[u8], k: usize) -> Option<Field<'_>> {
-        match read(record) {
-            Ok(parts) => parts.fields().nth(k),
-            Err(_) => None,
-        }
+        read(record).ok()?.fields().nth(k)
     }
 
     // Tag, entry, place and length of field `k`.
-    fn numbers(record: &[u8], k: usize) -> (u16, usize, usize, usize) {
-        match field(record, k) {
-            Some(field) => (field.tag, field.entry, field.place, field.size),
-            None => (0, 0, 0, 0),
-        }
+    fn numbers(record: &[u8], k: usize) -> Option<(u16, usize, usize, usize)> {
+        let found = field(record, k)?;
+        Some((found.tag, found.entry, found.place, found.size))
     }
 
-    // Subfield `j` of field `k`.
-    fn subfield(record: &[u8], k: usize, j: usize) -> Option<Subfield<'_>> {
-        match field(record, k)?.content {
-            Content::Control(_) => None,
-            Content::Data { mut subfields, .. } => subfields.nth(j),
-        }
-    }
-
-    // Place, code and length of the data.
-    fn marks(found: Option<Subfield<'_>>) -> (usize, u8, usize) {
-        match found {
-            Some(subfield) => (subfield.place, subfield.code, subfield.body.len()),
-            None => (0, 0, 0),
-        }
+    // Place, code and length of the data of subfield `j` of field `k`.
+    fn marks(record: &[u8], k: usize, j: usize) -> Option<(usize, u8, usize)> {
+        let found = field(record, k)?.subfields().nth(j)?;
+        Some((found.place, found.code, found.body.len()))
     }
 
     // The bytes of a control field.
-    fn control(record: &[u8], k: usize) -> &[u8] {
-        match field(record, k) {
-            Some(
-                Field {
-                    content: Content::Control(bytes),
-                    ..
-                },
-            ) => bytes,
-            _ => b"?",
+    fn control(record: &[u8], k: usize) -> Option<&[u8]> {
+        match field(record, k)?.content {
+            Content::Control(bytes) => Some(bytes),
+            Content::Data { .. } => None,
         }
     }
 
     #[test]
     fn fields_of_record_a(rt: HostRuntime) {
         let a = record_a();
-        assert_eq!(rt; numbers(a, 0), (185, 24, 37, 8));
-        assert_eq!(rt; marks(subfield(a, 0, 0)), (39, b'j', 3));
-        assert_eq!(rt; marks(subfield(a, 0, 1)), (0, 0, 0));
-        assert_eq!(rt; numbers(a, 1), (0, 0, 0, 0));
+        assert_eq!(rt; numbers(a, 0), Some((185, 24, 37, 8)));
+        assert_eq!(rt; marks(a, 0, 0), Some((39, b'j', 3)));
+        assert_eq!(rt; marks(a, 0, 1), None);
+        assert_eq!(rt; numbers(a, 1), None);
     }
 
     // 001 `a1`, 003 with no byte but its 1E, and 245 `10` with an empty $a, $b xy and an empty $c.
@@ -146,25 +116,25 @@ mod tests {
     fn control_fields_and_empty_subfields(rt: HostRuntime) {
         let record =
             b"00077nam  2200061   4500001000300000003000100003245001100004\x1ea1\x1e\x1e10\x1fa\x1fbxy\x1fc\x1e\x1d";
-        assert_eq!(rt; numbers(record, 0), (1, 24, 61, 3));
-        assert_eq!(rt; numbers(record, 1), (3, 36, 64, 1));
-        assert_eq!(rt; numbers(record, 2), (245, 48, 65, 11));
-        assert_eq!(rt; control(record, 0).len(), 2);
-        assert_eq!(rt; control(record, 0).last().copied(), Some(b'1'));
-        assert_eq!(rt; control(record, 1).len(), 0);
-        assert_eq!(rt; marks(subfield(record, 2, 0)), (67, b'a', 0));
-        assert_eq!(rt; marks(subfield(record, 2, 1)), (69, b'b', 2));
-        assert_eq!(rt; marks(subfield(record, 2, 2)), (73, b'c', 0));
-        assert_eq!(rt; marks(subfield(record, 2, 3)), (0, 0, 0));
+        assert_eq!(rt; numbers(record, 0), Some((1, 24, 61, 3)));
+        assert_eq!(rt; numbers(record, 1), Some((3, 36, 64, 1)));
+        assert_eq!(rt; numbers(record, 2), Some((245, 48, 65, 11)));
+        assert_eq!(rt; control(record, 0).map(|bytes| bytes.len()), Some(2));
+        assert_eq!(rt;
+            control(record, 0).and_then(|bytes| bytes.last().copied()),
+            Some(b'1')
+        );
+        assert_eq!(rt; control(record, 1).map(|bytes| bytes.len()), Some(0));
+        assert_eq!(rt; marks(record, 2, 0), Some((67, b'a', 0)));
+        assert_eq!(rt; marks(record, 2, 1), Some((69, b'b', 2)));
+        assert_eq!(rt; marks(record, 2, 2), Some((73, b'c', 0)));
+        assert_eq!(rt; marks(record, 2, 3), None);
     }
 
     #[test]
     fn a_record_that_breaks_its_frame(rt: HostRuntime) {
         let mut no_mark = *record_a();
         no_mark[39] = b'x';
-        match read(&no_mark) {
-            Ok(_) => assert!(rt; false),
-            Err(fault) => assert_eq!(rt; fault, FrameFault::Field { place: 39 }),
-        }
+        assert_eq!(rt; read(&no_mark).err(), Some(FrameFault::Field { place: 39 }));
     }
 }

@@ -5,14 +5,14 @@ use Rattle.record.specs.Directory.{entry_place, entry_rule, sizes_before, starts
 use Rattle.record.specs.Rules.{verdict}
 use Rattle.record.proofs.Ranges.{kept, broken, ended}
 use Rattle.record.proofs.Sound.{sizes_next, sizes_none}
-use Rattle.record.proofs.directory.check_entries.Goals as goal
+use Rattle.record.proofs.directory.Directory.check_entries.Goals as goal
 
 pub loop-k-init : goal.loop-k-init
 loop-k-init c = (refl, sym (sizes_none _), omega arith)
 
 pub loop-k-preserved : goal.loop-k-preserved
 loop-k-preserved c =
-    let bs = c.args.bytes.now in
+    let bs = c.args.self.now.bytes.now in
     let k = c.loop-k.k in
     let inv = c.loop-k.invariant in (
       inv.0 ∙ kept (entry_rule bs) (λ j. Entry (entry_place j)) k _ c.loop-k-test.true (c.if-not-entry_holds.ensures ∙ ap (starts_at bs k) inv.1),
@@ -22,13 +22,13 @@ loop-k-preserved c =
 
 pub returns-then-not-entry_holds : goal.returns-then-not-entry_holds
 returns-then-not-entry_holds c =
-    let bs = c.args.bytes.now in
+    let bs = c.args.self.now.bytes.now in
     let k = c.loop-k.k in
     let inv = c.loop-k.invariant in
-    sym (ap (λ l. verdict l (sizes_before bs c.args.entries)) inv.0 ∙ broken (entry_rule bs) (λ j. Entry (entry_place j)) k _ c.loop-k-test.true _ (c.if-not-entry_holds.ensures ∙ ap (starts_at bs k) inv.1))
+    sym (ap (λ l. verdict l (sizes_before bs c.args.self.now.entries)) inv.0 ∙ broken (entry_rule bs) (λ j. Entry (entry_place j)) k _ c.loop-k-test.true _ (c.if-not-entry_holds.ensures ∙ ap (starts_at bs k) inv.1))
 
 pub returns : goal.returns
 returns c =
-    let bs = c.args.bytes.now in
-    let k : c.loop-k.k ≡ c.args.entries = omega arith in
-    ap Ok (c.loop-k.invariant.1 ∙ ap (sizes_before bs) k) ∙ sym (ap (λ l. verdict l (sizes_before bs c.args.entries)) (c.loop-k.invariant.0 ∙ ended _ _ _ c.loop-k-test.false))
+    let bs = c.args.self.now.bytes.now in
+    let k : c.loop-k.k ≡ c.args.self.now.entries = omega arith in
+    ap Ok (c.loop-k.invariant.1 ∙ ap (sizes_before bs) k) ∙ sym (ap (λ l. verdict l (sizes_before bs c.args.self.now.entries)) (c.loop-k.invariant.0 ∙ ended _ _ _ c.loop-k-test.false))
