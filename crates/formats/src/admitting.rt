@@ -1,16 +1,15 @@
 // 23 to 26: leader codes, tags, indicators and subfield codes that the format does not admit.
 ghost use Rattle.std.specs.Prelude.{◌≡◌, ◌<◌};
 ghost use Rattle.std.specs.List.{All, flat_map};
-ghost use Rattle.record.specs.Cursors.{fields_left, seen_field, subfields_left};
+ghost use Rattle.record.specs.Cursors.{fields_left, seen_field};
 ghost use Rattle.record.specs.Rules.{verdict};
 ghost use Rattle.rows.specs.Table.{present};
-ghost use Rattle.formats.specs.Faults.{indicator_fault, indicator_faults, leader_faults, subfield_fault, subfield_faults, tag_fault};
+ghost use Rattle.formats.specs.Faults.{indicator_fault, indicator_faults, leader_faults, subfield_faults, tag_fault};
 
 use crate::faults::FormatFault;
 use crate::format::Format;
 use record::fields::{Content, Field, Fields};
 use record::leader::positions;
-use record::subfields::Subfields;
 
 // 23: each leader code is admitted at its position.
 pub(crate) fn check_leader<F: Format>(format: &F, codes: &[u8; 8]) -> Result<(), FormatFault>
@@ -82,32 +81,18 @@ pub(crate) fn check_indicators<F: Format>(format: &F, mut fields: Fields<'_>) ->
     fields.try_for_each(|field| check_both(format, field))
 }
 
-// The codes of these subfields of a field.
-fn check_codes<F: Format>(
-    format: &F,
-    tag: u16,
-    mut subfields: Subfields<'_>,
-) -> Result<(), FormatFault>
-    ensures { result ≡ verdict (flat_map (subfield_fault (F.Format.meaning format.now) tag) (subfields_left subfields.entry)) tt }
+// The subfield codes of a field.
+fn check_codes<F: Format>(format: &F, field: Field<'_>) -> Result<(), FormatFault>
+    ensures { result ≡ verdict (subfield_faults (F.Format.meaning format.now) (seen_field field.entry)) tt }
 {
-    let unknown = subfields.find(|subfield| !format.subfield_occurs(tag, subfield.code).is_present());
-    match unknown {
+    let mut subfields = field.subfields();
+    match subfields.find(|subfield| !format.subfield_occurs(field.tag, subfield.code).is_present()) {
         Some(subfield) => Err(FormatFault::Subfield {
             place: subfield.place,
-            tag,
+            tag: field.tag,
             code: subfield.code,
         }),
         None => Ok(()),
-    }
-}
-
-// The subfield codes of a field; a control field has none.
-fn check_held<F: Format>(format: &F, field: Field<'_>) -> Result<(), FormatFault>
-    ensures { result ≡ verdict (subfield_faults (F.Format.meaning format.now) (seen_field field.entry)) tt }
-{
-    match field.content {
-        Content::Control(_) => Ok(()),
-        Content::Data { subfields, .. } => check_codes(format, field.tag, subfields),
     }
 }
 
@@ -115,5 +100,5 @@ fn check_held<F: Format>(format: &F, field: Field<'_>) -> Result<(), FormatFault
 pub(crate) fn check_subfields<F: Format>(format: &F, mut fields: Fields<'_>) -> Result<(), FormatFault>
     ensures { result ≡ verdict (flat_map (subfield_faults (F.Format.meaning format.now)) (fields_left fields.entry)) tt }
 {
-    fields.try_for_each(|field| check_held(format, field))
+    fields.try_for_each(|field| check_codes(format, field))
 }

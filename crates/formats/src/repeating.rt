@@ -1,46 +1,31 @@
 // 27 and 28: what is allowed once and comes a second time.
 ghost use Rattle.std.specs.Prelude.{◌≡◌};
 ghost use Rattle.std.specs.List.{flat_map};
-ghost use Rattle.record.specs.Cursors.{fields_left, seen_field, subfields_left};
+ghost use Rattle.record.specs.Cursors.{fields_left, seen_field};
 ghost use Rattle.record.specs.Rules.{verdict};
-ghost use Rattle.formats.specs.Faults.{repeated_codes, repeated_fields, repeated_subfields};
+ghost use Rattle.formats.specs.Faults.{repeated_fields, repeated_subfields};
 
 use crate::faults::FormatFault;
 use crate::format::Format;
 use crate::marks::Marks;
-use record::fields::{Content, Field, Fields};
-use record::subfields::Subfields;
+use record::fields::{Field, Fields};
 
-// These subfields of a field, whose codes are marked as they come.
-fn check_repeated_codes<F: Format>(
-    format: &F,
-    tag: u16,
-    subfields: Subfields<'_>,
-) -> Result<(), FormatFault>
-    ensures { result ≡ verdict (repeated_codes (F.Format.meaning format.now) tag (subfields_left subfields.entry)) tt }
+// The subfields of a field, whose codes are marked as they come.
+fn check_repeated_codes<F: Format>(format: &F, field: Field<'_>) -> Result<(), FormatFault>
+    ensures { result ≡ verdict (repeated_subfields (F.Format.meaning format.now) (seen_field field.entry)) tt }
 {
     let mut marks = Marks::<256>::new();
-    for subfield in subfields {
+    for subfield in field.subfields() {
         let code = subfield.code;
-        if format.subfield_occurs(tag, code).is_once() && marks.mark(usize::from(code)) {
+        if format.subfield_occurs(field.tag, code).is_once() && marks.mark(usize::from(code)) {
             return Err(FormatFault::RepeatedSubfield {
                 place: subfield.place,
-                tag,
+                tag: field.tag,
                 code,
             });
         }
     }
     Ok(())
-}
-
-// The subfields of a field; a control field has none.
-fn check_repeated_held<F: Format>(format: &F, field: Field<'_>) -> Result<(), FormatFault>
-    ensures { result ≡ verdict (repeated_subfields (F.Format.meaning format.now) (seen_field field.entry)) tt }
-{
-    match field.content {
-        Content::Control(_) => Ok(()),
-        Content::Data { subfields, .. } => check_repeated_codes(format, field.tag, subfields),
-    }
 }
 
 // 27: no field has a second subfield of a code allowed once.
@@ -50,7 +35,7 @@ pub(crate) fn check_repeated_subfields<F: Format>(
 ) -> Result<(), FormatFault>
     ensures { result ≡ verdict (flat_map (repeated_subfields (F.Format.meaning format.now)) (fields_left fields.entry)) tt }
 {
-    fields.try_for_each(|field| check_repeated_held(format, field))
+    fields.try_for_each(|field| check_repeated_codes(format, field))
 }
 
 // 28: no second field has a tag allowed once. The tags are marked as they come; a format has none above 999.
