@@ -1,5 +1,5 @@
 -- A cursor whose items are checked one after the other by `try_for_each`: the first fault of a check is the first fault of all. Assumes nothing.
-use Rattle.std.proofs.Common.{◌≡◌, List, [], ◌∷◌, ◌++◌, Option, Some, None, Ok, Err, Result, IsErr, IsErrAnd, sym, refl, ap, ◌∙◌, subst}
+use Rattle.std.proofs.Common.{◌≡◌, List, [], ◌∷◌, ◌++◌, Some, None, Result, IsErr, IsErrAnd, sym, refl, ap, ◌∙◌, subst}
 use denote.Param.Members.{Mut}
 use Rattle.std.specs.Fn.{Called}
 use Rattle.std.specs.Iterator.{TryCallsOnEach, TryForEachTurn, Yields, YieldsFirstBy}
@@ -10,7 +10,7 @@ use Rattle.record.specs.Rules.{verdict}
 use Rattle.record.proofs.Verdicts.{first, none, returned}
 
 module _ {S A B P F : Type 0} (left : S → List B) (seen : A → B) (faults : B → List F) {g : Mut P (A × Unit {0}) (Result (Unit {0}) F)} (p : P)
-  (checks : (x : A) (v : Result (Unit {0}) F) (q : P) → Called g p (x, tt) v q → (q ≡ p) × (v ≡ verdict (faults (seen x)) tt)) where
+    (checks : (x : A) (v : Result (Unit {0}) F) (q : P) → Called g p (x, tt) v q → (q ≡ p) × (v ≡ verdict (faults (seen x)) tt)) where
   -- the items before passed, and the closure is as it was
   passed : (xs : List A) (s t : S) (q r : P) → q ≡ p → Yields (YieldsFirstBy seen left) s xs t → FoldsTo (TryForEachTurn g (λ v o. v ≡ result_from_control_flow o)) q xs r → (r ≡ p) × (flat_map faults (left s) ≡ flat_map faults (left t))
   passed [] s t q r same went calls = (sym calls ∙ same, ap (λ u. flat_map faults (left u)) went)

@@ -1,7 +1,6 @@
 -- What came before in a loop, kept as a table of marks. Assumes nothing.
-use Rattle.std.proofs.Common.{◌≡◌, ℕ, ◌<◌, ◌≤◌, Bool, true, false, not, ◌&&◌, ◌||◌, leb, eqb, List, [], ◌∷◌, ◌++◌, length, get_or, set, replicate, Ok, Err, sym, refl, ap, ◌∙◌, subst, ⊎_elim, arith}
-use Rattle.std.proofs.lemmas.List.{length-set, length-replicate, get_or-replicate, get_or-set_same, get_or-set_other}
-use Rattle.std.proofs.lemmas.Bool.{and_parts, leb-true, both_ways, cases_eq, eq-eqb, ne_eqb}
+use Rattle.std.proofs.Common.{◌≡◌, ℕ, ◌<◌, ◌≤◌, Bool, true, false, not, ◌&&◌, ◌||◌, leb, eqb, List, [], ◌∷◌, ◌++◌, Ok, Err, sym, refl, ap, ◌∙◌, subst, arith}
+use Rattle.std.proofs.lemmas.Bool.{and_parts, leb-true, both_ways, ne_eqb}
 use Rattle.record.specs.Rules.{rule, verdict}
 use Rattle.rows.specs.declared.occurs.Occurs.{Occurs}
 use Rattle.rows.specs.declared.occurs.Occurs.TheVariants.{Absent, Once, Many}
@@ -18,11 +17,11 @@ pub record Marked (occurs : ℕ → Occurs) (table : List Bool) (before : List �
 -- a number that is not allowed once needs no mark
 unmarked : {occurs : ℕ → Occurs} {table : List Bool} {before : List ℕ} → Marked occurs table before → (n : ℕ) → only_once (occurs n) ≡ false → Marked occurs table (n ∷ before)
 unmarked {occurs} {table} {before} m n f = record { at = more }
-    where
-      more : (k : ℕ) → only_once (occurs k) ≡ true → is_marked table k ≡ has (n ∷ before) k
-      more k e =
-          let ne : n ≡ k → ⊥ = λ q. both_ways _ f (subst (λ x. only_once (occurs x) ≡ true) (sym q) e) in
-          m.at k e ∙ ap (λ b. b || has before k) (sym (ne_eqb n k ne))
+  where
+    more : (k : ℕ) → only_once (occurs k) ≡ true → is_marked table k ≡ has (n ∷ before) k
+    more k e =
+        let ne : n ≡ k → ⊥ = λ q. both_ways _ f (subst (λ x. only_once (occurs x) ≡ true) (sym q) e) in
+        m.at k e ∙ ap (λ b. b || has before k) (sym (ne_eqb n k ne))
 
 -- the faults in the whole list are those in what is left, after what came before
 pub record Repeating {A : Type 0} (occurs : ℕ → Occurs) (number : A → ℕ) (fault : A → FormatFault) (whole : List A) (table : List Bool) (rest : List A) : Type 0 where

@@ -74,7 +74,10 @@ fn check_both<F: Format>(format: &F, field: Field<'_>) -> Result<(), FormatFault
 }
 
 // 25: each indicator is admitted.
-pub(crate) fn check_indicators<F: Format>(format: &F, mut fields: Fields<'_>) -> Result<(), FormatFault>
+pub(crate) fn check_indicators<F: Format>(
+    format: &F,
+    mut fields: Fields<'_>,
+) -> Result<(), FormatFault>
     requires { All (λ f. f.place < 100000) (fields_left fields) }
     ensures { result ≡ verdict (flat_map (indicator_faults (F.Format.meaning format.now)) (fields_left fields.entry)) tt }
 {
@@ -86,7 +89,10 @@ fn check_codes<F: Format>(format: &F, field: Field<'_>) -> Result<(), FormatFaul
     ensures { result ≡ verdict (subfield_faults (F.Format.meaning format.now) (seen_field field.entry)) tt }
 {
     let mut subfields = field.subfields();
-    match subfields.find(|subfield| !format.subfield_occurs(field.tag, subfield.code).is_present()) {
+    match subfields.find(|subfield| !format
+        .subfield_occurs(field.tag, subfield.code)
+        .is_present())
+    {
         Some(subfield) => Err(FormatFault::Subfield {
             place: subfield.place,
             tag: field.tag,
@@ -97,7 +103,10 @@ fn check_codes<F: Format>(format: &F, field: Field<'_>) -> Result<(), FormatFaul
 }
 
 // 26: each subfield code is admitted.
-pub(crate) fn check_subfields<F: Format>(format: &F, mut fields: Fields<'_>) -> Result<(), FormatFault>
+pub(crate) fn check_subfields<F: Format>(
+    format: &F,
+    mut fields: Fields<'_>,
+) -> Result<(), FormatFault>
     ensures { result ≡ verdict (flat_map (subfield_faults (F.Format.meaning format.now)) (fields_left fields.entry)) tt }
 {
     fields.try_for_each(|field| check_codes(format, field))

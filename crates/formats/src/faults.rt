@@ -112,8 +112,12 @@ impl fmt::Display for FormatFault {
             Self::Tag { .. } => f.write_str("the format lacks the tag"),
             Self::Indicator { .. } => f.write_str("an indicator is not admitted"),
             Self::Subfield { .. } => f.write_str("the tag lacks the subfield code"),
-            Self::RepeatedSubfield { .. } => f.write_str("a second subfield has a code that is allowed once"),
-            Self::RepeatedField { .. } => f.write_str("a second field has a tag that is allowed once"),
+            Self::RepeatedSubfield { .. } => f.write_str(
+                "a second subfield has a code that is allowed once",
+            ),
+            Self::RepeatedField { .. } => f.write_str(
+                "a second field has a tag that is allowed once",
+            ),
         }
     }
 }
