@@ -16,10 +16,10 @@ first c =
 
 pub returns-in-Some : goal.returns-in-Some
 returns-in-Some c =
-    first_beside (λ s. s.now) (λ p s. some_characters s) (λ p s. Leader p) 0 [] tt code_positions c.args.sets.now 8 refl (omega (arith, c.told-sets)) _ _ _ c.in-Some.is
+    first_beside (λ s. s.now) (λ p s. some_characters s) (λ p s. Leader p) 0 [] tt code_positions c.args.sets.now 8 refl (omega arith) _ _ _ c.in-Some.is
     (first (goal.at.returns-in-Some c).After-find)
 
 pub returns-in-None : goal.returns-in-None
 returns-in-None c =
-    none_beside (λ s. s.now) (λ p s. some_characters s) (λ p s. Leader p) 0 [] tt code_positions c.args.sets.now 8 refl (omega (arith, c.told-sets)) _ c.in-None.is
+    none_beside (λ s. s.now) (λ p s. some_characters s) (λ p s. Leader p) 0 [] tt code_positions c.args.sets.now 8 refl (omega arith) _ c.in-None.is
     (first (goal.at.returns-in-None c).After-find)
