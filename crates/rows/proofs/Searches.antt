@@ -27,12 +27,6 @@ row_seen rows g r e = twice r ∙ ap (option_map seen_row) e ∙ first rows
     first [] = refl
     first (x ∷ xs) = here (eqb x.tag g) x _ _ (first xs)
 
--- the set of the position p is the k-th
-pub set_at : (leader : List (Bor (List ℕ))) (d : Bor (List ℕ)) (p k c : ℕ) → code_position p ≡ true → place_of p ≡ k → k < length leader →
-    has (get_or leader k d).now c ≡ (code_position p && has (get_or (seen_sets leader) (place_of p) []) c)
-set_at leader d p k c inside at within =
-    rw (inside, at) (ap (λ s. has s c) (sym (get_or-map (λ s. s.now) leader k d [] within)))
-
 -- what a search by place gave of the items that are right
 abbrev pub FindsFirst : {A : Type 0} → (A → Bool) → List A → Option ℕ → Type 0
 FindsFirst {A} ok xs r =

@@ -31,9 +31,6 @@ module _ (rows : List Row) where
     pub left_are : tag_faults (map seen_row rows) ≡ left k
     pub before_is : before ≡ tag_before (map seen_row rows) k
 
-  pub tags_begin : TagsPassed 0 0
-  tags_begin = record { left_are = refl; before_is = refl }
-
   module _ {k before : ℕ} (passed : TagsPassed k before) where
     pub tags_end : length rows ≤ k → Ok (tt {0}) ≡ verdict (tag_faults (map seen_row rows)) (tt {0})
     tags_end past = ap (λ l. verdict l (tt {0})) (sym (passed.left_are ∙ ended (λ k. rule (holds k) (Tag k)) k _ (rw length-map past)))
