@@ -1,13 +1,16 @@
--- Parts of a list: what follows them, how long they are, their bytes, and that they stop where the list ends. Assumes nothing.
-use Rattle.std.proofs.Common.{◌≡◌, ℕ, ◌+◌, ◌-◌, ◌≤◌, min, List, ◌++◌, map, length, get_or, take, drop, sym, ap, ◌∙◌, ⊎_elim, le_refl, arith, length-drop, take-append-drop}
+-- Parts of a list: what follows them, how long they are, and their bytes. Assumes nothing.
+use Rattle.std.proofs.Common.{◌≡◌, ℕ, ◌+◌, ◌≤◌, List, ◌++◌, map, length, get_or, take, drop, sym, ap, ◌∙◌, arith, length-drop, take-add, take-append-drop}
 use Rattle.std.specs.List.{range_with_len}
 use Rattle.std.proofs.lemmas.List.FromFn.{fill_by_all}
-use Rattle.std.proofs.lemmas.List.{drop_all, drop-drop, drop-take, get_or-drop, get_or-take, length-take-le, take_all, take-take}
-use Rattle.std.proofs.lemmas.Bool.{cases_lt}
+use Rattle.std.proofs.lemmas.List.{drop-drop, drop-take, get_or-drop, get_or-take, length-take-le, take-take}
 use Rattle.record.specs.Figures.{part}
 
 pub next_part : (bs : List ℕ) (p n : ℕ) → drop p bs ≡ part bs p n ++ drop (p + n) bs
 next_part bs p n = sym (take-append-drop n (drop p bs)) ∙ ap (λ l. part bs p n ++ l) (drop-drop n p bs)
+
+-- a part in two
+pub part_parts : (bs : List ℕ) (p n m : ℕ) → part bs p (n + m) ≡ part bs p n ++ part bs (p + n) m
+part_parts bs p n m = take-add n m (drop p bs) ∙ ap (λ l. part bs p n ++ take m l) (drop-drop n p bs)
 
 pub length_part : (bs : List ℕ) (p n : ℕ) → p + n ≤ length bs → length (part bs p n) ≡ n
 length_part bs p n h = length-take-le n (drop p bs) (omega (arith, length-drop p bs))
@@ -15,25 +18,6 @@ length_part bs p n h = length-take-le n (drop p bs) (omega (arith, length-drop p
 -- a part, byte by byte
 pub part_bytes : (bs : List ℕ) (p n : ℕ) → p + n ≤ length bs → part bs p n ≡ map (λ k. get_or bs (p + k) 0) (range_with_len 0 n)
 part_bytes bs p n h = fill_by_all (λ k. get_or bs (p + k) 0) (part bs p n) n 0 (length_part bs p n h) (λ k l. get_or-take n (drop p bs) k 0 l ∙ get_or-drop p bs k 0)
-
-drop_min : (p : ℕ) (bs : List ℕ) → drop (min p (length bs)) bs ≡ drop p bs
-drop_min p bs =
-    ⊎_elim
-    (λ h. let e : min p (length bs) ≡ p = omega arith in rw e)
-    (λ h. let e : min p (length bs) ≡ length bs = omega arith in rw e (drop_all (length bs) bs (le_refl (length bs)) ∙ sym (drop_all p bs h)))
-    (cases_lt p (length bs))
-
-take_min : (n : ℕ) (bs : List ℕ) → take (min n (length bs)) bs ≡ take n bs
-take_min n bs =
-    ⊎_elim
-    (λ h. let e : min n (length bs) ≡ n = omega arith in rw e)
-    (λ h. let e : min n (length bs) ≡ length bs = omega arith in rw e (take_all (length bs) bs (le_refl (length bs)) ∙ sym (take_all n bs h)))
-    (cases_lt n (length bs))
-
-pub clamped : (bs : List ℕ) (p n s m : ℕ) → s ≡ min p (length bs) → m ≡ min n (length bs - s) → take (s + m - s) (drop s bs) ≡ take n (drop p bs)
-clamped bs p n s m e f =
-    let k : s + m - s ≡ min n (length (drop s bs)) = rw (length-drop s bs) (omega arith) in
-    ap (λ j. take j (drop s bs)) k ∙ take_min n (drop s bs) ∙ ap (λ j. take n (drop j bs)) e ∙ ap (take n) (drop_min p bs)
 
 -- the front of a part, past its first two, seen from the whole list
 pub from_field : (bs : List ℕ) (p size m : ℕ) → m ≤ size → drop (p + 2) (take (p + m) bs) ≡ drop 2 (take m (part bs p size))

@@ -1,19 +1,12 @@
 -- Numbers in decimal digits, written and read. Assumes nothing.
-use Rattle.std.proofs.Common.{◌≡◌, ℕ, zero, suc, ◌+◌, ◌-◌, ◌*◌, ◌/◌, ◌%◌, ◌^◌, ◌<◌, Bool, true, false, cond, ◌&&◌, ltb, List, [], ◌∷◌, ◌++◌, length, replicate, sym, refl, ap, ◌∙◌, append_assoc, append-nil, add-zero, mul-le-mul_right, mul_assoc, zero-add, mul_left_comm, arith, length-append}
+use Rattle.std.proofs.Common.{◌≡◌, ℕ, zero, suc, ◌+◌, ◌-◌, ◌*◌, ◌/◌, ◌%◌, ◌^◌, ◌<◌, true, false, cond, ltb, List, [], ◌∷◌, ◌++◌, length, replicate, sym, refl, ap, ◌∙◌, append_assoc, append-nil, add-zero, mul-le-mul_right, mul_assoc, zero-add, mul_left_comm, arith, length-append}
 use native.Mathlib.Nat.{pow-succ'}
 use lib.ListN.{length-replicate}
 use Rattle.std.proofs.lemmas.Bool.{and_from, and_parts, cond-true, le-leb, leb-true, lt-ltb}
+use Rattle.std.proofs.lemmas.List.Folds.{list_all-append}
 use Rattle.record.specs.Classes.{digit}
 use Rattle.record.specs.Figures.{all_digits, number, number_from}
 use Rattle.record.specs.Layout.{digits, figure}
-
-pub and_assoc : (x y z : Bool) → ((x && y) && z) ≡ (x && (y && z))
-and_assoc true y z = refl
-and_assoc false y z = refl
-
-pub all_digits-append : (xs ys : List ℕ) → all_digits (xs ++ ys) ≡ (all_digits xs && all_digits ys)
-all_digits-append [] ys = refl
-all_digits-append (x ∷ xs) ys = ap (λ t. digit x && t) (all_digits-append xs ys) ∙ sym (and_assoc (digit x) (all_digits xs) (all_digits ys))
 
 pub length_digits : (w n : ℕ) → length (digits w n) ≡ w
 length_digits zero n = refl
@@ -33,7 +26,7 @@ number_digits (suc w) n h =
 pub digits_all : (w n : ℕ) → all_digits (digits w n) ≡ true
 digits_all zero n = refl
 digits_all (suc w) n =
-    all_digits-append (digits w (n / 10)) ((48 + n % 10) ∷ [])
+    list_all-append digit (digits w (n / 10)) ((48 + n % 10) ∷ [])
     ∙ and_from _ _ (digits_all w (n / 10)) (and_from _ _ (and_from _ _ (le-leb 48 (48 + n % 10) (omega arith)) (le-leb (48 + n % 10) 57 (omega arith))) refl)
 
 -- a figure that is wide enough

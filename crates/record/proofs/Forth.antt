@@ -1,10 +1,11 @@
 -- A record whose frame holds is well-formed parts, laid out. Assumes nothing.
-use Rattle.std.proofs.Common.{◌≡◌, ℕ, zero, suc, ◌+◌, ◌-◌, ◌*◌, ◌^◌, ◌<◌, ◌≤◌, true, ◌&&◌, eqb, ltb, List, [], ◌∷◌, ◌++◌, map, length, get_or, take, drop, sym, refl, ap, ◌∙◌, append_assoc, add-zero, zero-add, arith, lit<, length-append, length-drop, take-add}
+use Rattle.std.proofs.Common.{◌≡◌, ℕ, zero, suc, ◌+◌, ◌-◌, ◌*◌, ◌^◌, ◌<◌, ◌≤◌, true, ◌&&◌, eqb, ltb, List, [], ◌∷◌, ◌++◌, map, length, get_or, take, drop, sym, refl, ap, ◌∙◌, append_assoc, add-zero, zero-add, arith, lit<, length-append, length-drop}
 use Rattle.std.specs.List.{AllByRecursion}
-use Rattle.std.proofs.lemmas.List.{drop_all, drop-drop, drop_more}
+use Rattle.std.proofs.lemmas.List.{drop_all, drop_more}
 use Rattle.std.proofs.lemmas.Bool.{and_parts, eqb-true, ltb-true}
+use Rattle.std.proofs.lemmas.List.Folds.{list_all-append}
 use Rattle.record.specs.declared.faults.FrameFault.TheVariants as fault
-use Rattle.record.specs.Classes.{code_character}
+use Rattle.record.specs.Classes.{code_character, digit}
 use Rattle.record.specs.Contents.{byte_rule, faults_of, field_bytes, field_faults, field_place, fields_faults}
 use Rattle.record.specs.Directory.{directory_end_rule, directory_faults, entry_faults, entry_place, entry_rule, entry_size, entry_start, entry_tag, sizes_before}
 use Rattle.record.specs.Figures.{all_digits, number, part}
@@ -15,8 +16,8 @@ use Rattle.record.specs.Layout.{directory, entry, extent, field_laid, fields_lai
 use Rattle.record.specs.Leader.{base, codes_of, entry_count, leader_faults, leader_rule}
 use Rattle.record.specs.Parts.{Field}
 use Rattle.record.specs.Rules.{over, rule}
-use Rattle.record.proofs.Clamped.{length_part, next_part, part_bytes}
-use Rattle.record.proofs.Decimals.{all_digits-append, figure_back, number_fits}
+use Rattle.record.proofs.Clamped.{length_part, next_part, part_bytes, part_parts}
+use Rattle.record.proofs.Decimals.{figure_back, number_fits}
 use Rattle.record.proofs.Opened.{Opened, opened}
 use Rattle.record.proofs.Ranges.{every}
 use Rattle.record.proofs.Sound.{based, between, filled, sizes_mono, sizes_next, sizes_none}
@@ -72,8 +73,7 @@ entry_extent bs k = record { tag = entry_tag bs k; size = entry_size bs k }
 -- digits in two parts
 digits_parts : (bs : List ℕ) (p n m : ℕ) → all_digits (part bs p (n + m)) ≡ true → (all_digits (part bs p n) ≡ true) × (all_digits (part bs (p + n) m) ≡ true)
 digits_parts bs p n m ok =
-    let both : part bs p (n + m) ≡ part bs p n ++ part bs (p + n) m = take-add n m (drop p bs) ∙ ap (λ l. part bs p n ++ take m l) (drop-drop n p bs) in
-    and_parts _ _ (sym (ap all_digits both ∙ all_digits-append (part bs p n) (part bs (p + n) m)) ∙ ok)
+    and_parts _ _ (sym (ap all_digits (part_parts bs p n m) ∙ list_all-append digit (part bs p n) (part bs (p + n) m)) ∙ ok)
 
 -- what entry k says, and how it is written
 record Listed (bs : List ℕ) (k : ℕ) : Type 0 where

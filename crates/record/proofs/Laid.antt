@@ -4,8 +4,9 @@ use Rattle.std.specs.List.{AllByRecursion}
 use Rattle.std.proofs.ByRecursion.{All-get_or}
 use Rattle.std.proofs.lemmas.List.{at_drop_more, drop_all, drop-append-le, drop_at, drop-drop, get_or-drop, length_push, take-append-le, take_at}
 use Rattle.std.proofs.lemmas.Bool.Decides.{nat_tests}
+use Rattle.std.proofs.lemmas.List.Folds.{list_all-append}
 use Rattle.record.specs.declared.extent.Extent.{Extent}
-use Rattle.record.specs.Classes.{code_character, within}
+use Rattle.record.specs.Classes.{code_character, within, digit}
 use Rattle.record.specs.Contents.{field_bytes, field_place}
 use Rattle.record.specs.Directory.{entry_place, entry_size, entry_start, entry_tag, sizes_before, starts_at}
 use Rattle.record.specs.Extents.{extent_of, no_extent, starts, total}
@@ -14,7 +15,7 @@ use Rattle.record.specs.Layout.{directory, entry, figure, laid, laid_length, lea
 use Rattle.record.specs.Leader.{base, entry_count, leader_faults}
 use Rattle.record.specs.PartsFaults.{code_faults, extent_rule}
 use Rattle.record.specs.Rules.{over}
-use Rattle.record.proofs.Decimals.{all_digits-append, figure_all, length_figure, number-figure}
+use Rattle.record.proofs.Decimals.{figure_all, length_figure, number-figure}
 use Rattle.record.proofs.Extents.{Fits, rule_when, starts_next, starts_within}
 use Rattle.record.proofs.Leaders.{leader_base, leader_judged, length-leader}
 
@@ -130,8 +131,8 @@ module _ (codes : List ℕ) (es : List Extent) (fs : List ℕ) (eight : length c
     digits_at : all_digits (part lay (entry_place k) 12) ≡ (ltb e.tag 1000 && (ltb e.size 10000 && ltb s 100000))
     digits_at =
         ap all_digits (ap (take 12) entry_at ∙ take_at (entry e s) more 12 (length-entry e s))
-        ∙ all_digits-append (figure 3 e.tag) (figure 4 e.size ++ figure 5 s)
-        ∙ (λ i. figure_all 2 e.tag i && (all_digits-append (figure 4 e.size) (figure 5 s) ∙ (λ j. figure_all 3 e.size j && figure_all 4 s j)) i)
+        ∙ list_all-append digit (figure 3 e.tag) (figure 4 e.size ++ figure 5 s)
+        ∙ (λ i. figure_all 2 e.tag i && (list_all-append digit (figure 4 e.size) (figure 5 s) ∙ (λ j. figure_all 3 e.size j && figure_all 4 s j)) i)
 
     -- the entry is right where its extent is
     pub rule_at : starts_at lay k s ≡ extent_rule e s

@@ -5,6 +5,7 @@ pub mod Rules
 pub mod Figures
 pub mod Leader
 pub mod Directory
+pub mod Entries
 pub mod Contents
 pub mod Frame
 pub mod Broken

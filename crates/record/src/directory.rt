@@ -1,12 +1,14 @@
 // The directory of a record.
 ghost use Rattle.std.specs.Prelude.{◌≡◌, ◌+◌, ◌*◌, ◌<◌, ◌≤◌, true, [], length};
-ghost use Rattle.record.specs.Directory.{directory_end_rule, directory_faults, entry_faults, sizes_before, starts_at};
+ghost use Rattle.record.specs.Directory.{directory_end_rule, directory_faults, entry_faults, sizes_before};
+ghost use Rattle.record.specs.Entries.{entry_after};
 ghost use Rattle.record.specs.Frame.{size_rule};
 ghost use Rattle.record.specs.Leader.{base, entry_count, leader_faults};
 ghost use Rattle.record.specs.Rules.{over, verdict};
 
+use crate::entry::{Entry, entry_at};
 use crate::faults::FrameFault;
-use crate::figures::{is_figure_at, number_at};
+use crate::figures::number_at;
 
 // The directory of a record whose length and leader hold, in the record's bytes.
 #[derive(Clone, Copy)]
@@ -30,16 +32,12 @@ impl<'a> Directory<'a> {
         Directory { bytes, entries }
     }
 
-    // Whether entry `k` is right, where the lengths before it add up to `before`.
-    fn entry_holds(&self, k: usize, before: usize) -> bool
+    // Entry `k`, where it is right and the lengths before it add up to `before`.
+    fn entry(&self, k: usize, before: usize) -> Option<Entry>
         requires { k < self.now.entries }
-        ensures { result ≡ starts_at self.now.bytes.now k before }
+        ensures { result ≡ entry_after self.now.bytes.now k before }
     {
-        let place = 24 + 12 * k;
-        is_figure_at(self.bytes, place, 12)
-            && number_at(self.bytes, place, 3) > 0
-            && number_at(self.bytes, place + 3, 4) > 0
-            && number_at(self.bytes, place + 7, 5) == before
+        entry_at(self.bytes, k).filter(|entry| entry.follows(before))
     }
 
     // The first fault among the entries, or their lengths added up.
@@ -48,11 +46,10 @@ impl<'a> Directory<'a> {
     {
         let mut before = 0;
         for k in 0..self.entries {
-            let place = 24 + 12 * k;
-            if !self.entry_holds(k, before) {
-                return Err(FrameFault::Entry { place });
-            }
-            before += number_at(self.bytes, place + 3, 4);
+            let Some(entry) = self.entry(k, before) else {
+                return Err(FrameFault::Entry { place: 24 + 12 * k });
+            };
+            before += entry.size;
         }
         Ok(before)
     }

@@ -56,10 +56,3 @@ pub(crate) fn number_at(bytes: &[u8], place: usize, size: usize) -> usize
 {
     number_of(part_of(bytes, place, size))
 }
-
-// Whether only digits stand in so many bytes from this place on.
-pub(crate) fn is_figure_at(bytes: &[u8], place: usize, size: usize) -> bool
-    ensures { result ≡ all_digits (part bytes.now place size) }
-{
-    is_figure(part_of(bytes, place, size))
-}

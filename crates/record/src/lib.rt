@@ -12,6 +12,7 @@ pub mod faults;
 // The parts of a frame.
 mod contents;
 mod directory;
+mod entry;
 pub mod leader;
 
 // The frame check, and the call of it from C.
