@@ -1,15 +1,13 @@
--- What the searches find: a code in a set, a tag's row among the rows, a position's set among the eight. Assumes nothing.
-use Rattle.std.proofs.Common.{◌≡◌, ℕ, ◌<◌, ◌≤◌, Bool, true, false, cond, ◌&&◌, eqb, List, [], ◌∷◌, map, length, get_or, Option, Some, None, sym, refl, ap, ◌∙◌, Bor, arith}
+-- What the searches over rows find: a tag's row, and the first row that breaks a rule. Assumes nothing.
+use Rattle.std.proofs.Common.{◌≡◌, ℕ, ◌<◌, ◌≤◌, Bool, true, false, cond, eqb, List, [], ◌∷◌, map, length, get_or, Option, Some, None, refl, ap, ◌∙◌, Bor, arith}
 use lib.ListN.{length-map}
 use Rattle.std.specs.List as list
 use Rattle.std.specs.List.{AllWithin, HoldsAt}
 use Rattle.std.specs.Option.{MatchOption, option_map}
 use Rattle.std.proofs.lemmas.List.{get_or-map}
-use Rattle.record.specs.Classes.{code_position}
 use Rattle.record.proofs.Ranges.{IsFirstBroken}
 use Rattle.rows.specs.declared.rows.Row.{Row}
-use Rattle.rows.specs.Rows.{PlainRow, place_of, row_of, seen_row, seen_sets}
-use Rattle.rows.specs.Sets.{has}
+use Rattle.rows.specs.Rows.{PlainRow, row_of, seen_row}
 
 -- a row that was found, as it is seen, is the first of the rows as they are seen
 pub row_seen : (rows : List Row) (g : ℕ) (r : Option (Bor Row)) → option_map (λ x. x.now) r ≡ list.find (λ x. eqb x.tag g) rows → option_map (λ x. seen_row x.now) r ≡ row_of (map seen_row rows) g

@@ -1,5 +1,5 @@
--- The steps of the row check: one code, one row or one leader set more. Assumes nothing.
-use Rattle.std.proofs.Common.{◌≡◌, ℕ, ◌+◌, ◌<◌, ◌≤◌, Bool, true, false, List, map, length, get_or, Ok, Err, sym, refl, ap, ◌∙◌, add-one}
+-- The steps of the check of tags: one row more. Assumes nothing.
+use Rattle.std.proofs.Common.{◌≡◌, ℕ, ◌+◌, ◌<◌, ◌≤◌, Bool, true, false, List, map, length, get_or, Ok, Err, sym, ap, ◌∙◌, add-one}
 use lib.ListN.{length-map}
 use Rattle.std.proofs.lemmas.List.{get_or-map}
 use Rattle.record.specs.Rules.{over, rule, verdict}

@@ -1,5 +1,5 @@
 // The row check.
-ghost use Rattle.std.specs.Prelude.{◌≡◌, map, length};
+ghost use Rattle.std.specs.Prelude.{◌≡◌, map};
 ghost use Rattle.record.specs.Rules.{verdict};
 ghost use Rattle.rows.specs.Faults.{leader_faults, row_faults, row_rule, rows_faults, tag_faults, tag_rule};
 ghost use Rattle.rows.specs.Rows.{seen_row, seen_rows, seen_sets};
