@@ -1,3 +1,4 @@
-pub mod Marks
-pub mod Stages
+pub mod Each
+pub mod Searches
+pub mod Repeats
 pub mod Told

@@ -1,7 +1,8 @@
 -- A check of a format's record: a fault of the frame comes first, then those of codes and fields, whose places stand in the record. Assumes nothing.
 use Rattle.std.proofs.Common.{◌≡◌, ℕ, ◌<◌, List, [], ◌∷◌, ◌++◌, map, length, drop, Err, Ok, sym, ap, ◌∙◌, subst, arith, length-append, length-drop, length-take}
-use Rattle.std.specs.List.{AllByRecursion}
+use Rattle.std.specs.List.{All, AllByRecursion}
 use Rattle.std.proofs.ByRecursion.{All-weaker}
+use Rattle.std.proofs.lemmas.List.Elements.{All-from_recursion}
 use Rattle.record.specs.declared.faults.FrameFault.{FrameFault}
 use Rattle.record.specs.declared.reading.Record.{Record}
 use Rattle.record.specs.Cursors.{bytes_in, fields_in}
@@ -60,14 +61,14 @@ within bs f short s =
     let more = length-drop f.place bs in
     omega arith
 
-places : (bs : List ℕ) → length bs < 100000 → AllByRecursion (Stands bs) (fields_of bs) → AllByRecursion (λ f. f.place < 100000) (fields_of bs)
-places bs short stand = All-weaker (Stands bs) (λ f. f.place < 100000) (λ f s. within bs f short s) (fields_of bs) stand
+places : (bs : List ℕ) → length bs < 100000 → AllByRecursion (Stands bs) (fields_of bs) → All (λ f. f.place < 100000) (fields_of bs)
+places bs short stand = All-from_recursion (λ f. f.place < 100000) (fields_of bs) (All-weaker (Stands bs) (λ f. f.place < 100000) (λ f s. within bs f short s) (fields_of bs) stand)
 
 -- the places of the fields of a record that was read, as its cursor has them
-pub read_places : (bs : List ℕ) (r : Record) (fs : List PlacedField) → Reads bs r → fs ≡ fields_in r → AllByRecursion (λ f. f.place < 100000) fs
+pub read_places : (bs : List ℕ) (r : Record) (fs : List PlacedField) → Reads bs r → fs ≡ fields_in r → All (λ f. f.place < 100000) fs
 read_places bs r fs s e =
     let same = ap length s.back in
-    subst (AllByRecursion (λ f. f.place < 100000)) (sym (e ∙ s.fields_are)) (places bs (omega (arith, same, s.formed.fits)) s.stand)
+    subst (All (λ f. f.place < 100000)) (sym (e ∙ s.fields_are)) (places bs (omega (arith, same, s.formed.fits)) s.stand)
 
 -- codes and fields, as they are handed to the checks
 pub handed : (M : Table) (bs : List ℕ) (r : Record) (codes : List ℕ) (fs : List PlacedField) → Reads bs r → codes ≡ codes_of (bytes_in r) → fs ≡ fields_in r → parts_faults M codes fs ≡ parts_faults M (codes_of bs) (fields_of bs)

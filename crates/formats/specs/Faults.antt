@@ -2,7 +2,7 @@
 use Rattle.std.specs.Prelude.{ℕ, ◌+◌, Bool, not, ◌&&◌, List, [], ◌∷◌, ◌++◌, slice_index}
 use Rattle.std.specs.List.{flat_map}
 use Rattle.record.specs.Leader.{code_positions}
-use Rattle.record.specs.Reading.{Held, PlacedField, PlacedSubfield}
+use Rattle.record.specs.Reading.{Held, PlacedField, PlacedSubfield, subfields_held}
 use Rattle.record.specs.Reading.Held.{bytes, coded}
 use Rattle.record.specs.Rules.{over, rule}
 use Rattle.rows.specs.declared.occurs.Occurs.{Occurs}
@@ -33,11 +33,6 @@ indicators_held M tag place (coded i j ss) = indicator_fault M tag place 1 i ++ 
 
 abbrev pub indicator_faults : Table → PlacedField → List FormatFault
 indicator_faults M f = indicators_held M f.tag f.place f.holds
-
--- the subfields of a field; a control field has none
-abbrev pub subfields_held : Held → List PlacedSubfield
-subfields_held (bytes bs) = []
-subfields_held (coded i j ss) = ss
 
 abbrev pub code_of : PlacedSubfield → ℕ
 code_of s = s.subfield.code

@@ -1,3 +1,5 @@
 pub mod Faults
 pub mod Accepts
 pub mod Values
+pub mod Words
+pub mod Marks

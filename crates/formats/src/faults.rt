@@ -1,9 +1,12 @@
 // Why a format does not accept a record.
-ghost use Rattle.std.specs.Prelude.{◌≡◌};
-ghost use Rattle.formats.specs.Values.{format_values, values_of};
+ghost use Rattle.std.specs.Prelude.{◌≡◌, Some};
+ghost use Rattle.formats.specs.Values.{values_of};
+ghost use Rattle.formats.specs.Words.{words_of};
 ghost use Rattle.formats.specs.declared.faults.FormatFault.TheVariants.{Frame as Framed};
 
-use record::faults::{FrameFault, Layer, Values};
+use record::faults::{FrameFault, Layer, Refusal, Values};
+use std::error::Error;
+use std::fmt;
 
 // A rule that a record breaks. Each case has its six values by `values_of` of specs/Values.antt.
 #[derive(Clone, Copy, Debug, PartialEq, Eq)]
@@ -56,37 +59,67 @@ impl From<FrameFault> for FormatFault {
     }
 }
 
-impl FormatFault {
-    pub fn values(&self) -> Values
-        ensures { result ≡ values_of self.now }
-    {
+impl Refusal for FormatFault {
+    ghost meaning = { values_of };
+
+    fn values(&self) -> Values {
         match *self {
             Self::Frame(fault) => fault.values(),
-            Self::LeaderCode { position, code } => format_values(23, position, 0, 0, code),
-            Self::Tag { place, tag } => format_values(24, place, tag, 0, 0),
+            Self::LeaderCode { position, code } => Values {
+                code,
+                ..Values::at(Layer::Format, 23, position)
+            },
+            Self::Tag { place, tag } => Values {
+                tag,
+                ..Values::at(Layer::Format, 24, place)
+            },
             Self::Indicator {
                 place,
                 tag,
                 indicator,
                 code,
-            } => format_values(25, place, tag, indicator, code),
-            Self::Subfield { place, tag, code } => format_values(26, place, tag, 0, code),
-            Self::RepeatedSubfield { place, tag, code } => format_values(27, place, tag, 0, code),
-            Self::RepeatedField { place, tag } => format_values(28, place, tag, 0, 0),
+            } => Values {
+                tag,
+                indicator,
+                code,
+                ..Values::at(Layer::Format, 25, place)
+            },
+            Self::Subfield { place, tag, code } => Values {
+                tag,
+                code,
+                ..Values::at(Layer::Format, 26, place)
+            },
+            Self::RepeatedSubfield { place, tag, code } => Values {
+                tag,
+                code,
+                ..Values::at(Layer::Format, 27, place)
+            },
+            Self::RepeatedField { place, tag } => Values {
+                tag,
+                ..Values::at(Layer::Format, 28, place)
+            },
         }
     }
 }
 
-// The values of a refusal by the format.
-fn format_values(number: u8, place: usize, tag: u16, indicator: u8, code: u8) -> Values
-    ensures { result ≡ format_values number place tag indicator code }
-{
-    Values {
-        number,
-        layer: Layer::Format,
-        place,
-        tag,
-        indicator,
-        code,
+impl fmt::Display for FormatFault {
+    ghost output = { λ f. Some (words_of f) };
+
+    fn fmt<W: fmt::Write>(&self, f: &mut fmt::Formatter<W>) -> fmt::Result {
+        match self {
+            Self::Frame(fault) => fault.fmt(f),
+            Self::LeaderCode { .. } => f.write_str("a leader code is not admitted at its position"),
+            Self::Tag { .. } => f.write_str("the format lacks the tag"),
+            Self::Indicator { .. } => f.write_str("an indicator is not admitted"),
+            Self::Subfield { .. } => f.write_str("the tag lacks the subfield code"),
+            Self::RepeatedSubfield { .. } => f.write_str(
+                "a second subfield has a code that is allowed once",
+            ),
+            Self::RepeatedField { .. } => f.write_str(
+                "a second field has a tag that is allowed once",
+            ),
+        }
     }
 }
+
+impl Error for FormatFault {}

@@ -1,8 +1,12 @@
 // What every format answers.
-ghost use Rattle.std.specs.Prelude.{◌≡◌};
+ghost use Rattle.std.specs.Prelude.{◌≡◌, true};
+ghost use Rattle.rows.specs.Faults.{sound};
+ghost use Rattle.rows.specs.Rows.{PlainRows, seen_rows, table};
 ghost use Rattle.rows.specs.Table.{Lawful, Table};
+ghost use Rattle.rows.proofs.Laws.{rows_lawful};
 
 use rows::occurs::Occurs;
+use rows::rows::FormatRows;
 
 // A format answers four questions, about any numbers, and a question leaves it as it is.
 pub trait Format {
@@ -27,4 +31,38 @@ pub trait Format {
     // Is this subfield code of this tag absent, allowed once, or many times?
     fn subfield_occurs(&self, tag: u16, code: u8) -> Occurs
         ensures { result ≡ (meaning self.now).subfield tag code };
+}
+
+// A format that answers from its rows, which pass the row check.
+pub trait RowFormat {
+    // Its rows, as they are seen.
+    ghost rows: { Self → PlainRows };
+
+    ghost passes: { (f : Self) → sound (rows f) ≡ true };
+
+    // Its rows.
+    fn format_rows(&self) -> FormatRows<'_>
+        ensures { seen_rows result ≡ rows self.now };
+}
+
+impl<R: RowFormat> Format for R {
+    ghost meaning = { λ f. table (R.RowFormat.rows f) };
+
+    ghost lawful = { λ f. rows_lawful (R.RowFormat.rows f) (R.RowFormat.passes f) };
+
+    fn admits_code(&self, position: usize, code: u8) -> bool {
+        self.format_rows().admits_code(position, code)
+    }
+
+    fn tag_occurs(&self, tag: u16) -> Occurs {
+        self.format_rows().tag_occurs(tag)
+    }
+
+    fn admits_indicator(&self, tag: u16, indicator: u8, code: u8) -> bool {
+        self.format_rows().admits_indicator(tag, indicator, code)
+    }
+
+    fn subfield_occurs(&self, tag: u16, code: u8) -> Occurs {
+        self.format_rows().subfield_occurs(tag, code)
+    }
 }

@@ -2,12 +2,10 @@
 ghost use Rattle.std.specs.Prelude.{◌≡◌, true};
 ghost use Rattle.record.specs.Rules.{verdict};
 ghost use Rattle.rows.specs.Faults.{bare as bare_rows, opened, rows_faults, sound as passes};
-ghost use Rattle.rows.specs.Rows.{seen_rows, table};
-ghost use Rattle.rows.proofs.Laws.{rows_lawful};
+ghost use Rattle.rows.specs.Rows.{seen_rows};
 
-use crate::format::Format;
+use crate::format::RowFormat;
 use rows::faults::RowFault;
-use rows::occurs::Occurs;
 use rows::rows::FormatRows;
 
 // The format of a library's rows where they pass the row check, and else the bare format: blank at every code position and no field.
@@ -52,24 +50,12 @@ impl<'a> LocalFormat<'a> {
     }
 }
 
-impl<'a> Format for LocalFormat<'a> {
-    ghost meaning = { λ f. table (seen_rows f.rows) };
+impl<'a> RowFormat for LocalFormat<'a> {
+    ghost rows = { λ f. seen_rows f.rows };
 
-    ghost lawful = { λ f. rows_lawful (seen_rows f.rows) f.sound };
+    ghost passes = { λ f. f.sound };
 
-    fn admits_code(&self, position: usize, code: u8) -> bool {
-        self.rows.admits_code(position, code)
-    }
-
-    fn tag_occurs(&self, tag: u16) -> Occurs {
-        self.rows.tag_occurs(tag)
-    }
-
-    fn admits_indicator(&self, tag: u16, indicator: u8, code: u8) -> bool {
-        self.rows.admits_indicator(tag, indicator, code)
-    }
-
-    fn subfield_occurs(&self, tag: u16, code: u8) -> Occurs {
-        self.rows.subfield_occurs(tag, code)
+    fn format_rows(&self) -> FormatRows<'_> {
+        self.rows
     }
 }

@@ -1,106 +1,59 @@
 // 27 and 28: what is allowed once and comes a second time.
 ghost use Rattle.std.specs.Prelude.{◌≡◌};
 ghost use Rattle.std.specs.List.{flat_map};
-ghost use Rattle.record.specs.Cursors.{fields_left, seen_field, subfields_left};
+ghost use Rattle.record.specs.Cursors.{fields_left, seen_field};
 ghost use Rattle.record.specs.Rules.{verdict};
-ghost use Rattle.rows.specs.Table.{only_once};
-ghost use Rattle.formats.specs.Faults.{repeated_codes, repeated_fields, repeated_subfields};
+ghost use Rattle.formats.specs.Faults.{repeated_fields, repeated_subfields};
 
+use crate::checking::RecordCheck;
 use crate::faults::FormatFault;
 use crate::format::Format;
-use record::fields::{Content, Field, Fields};
-use record::subfields::Subfields;
-use rows::occurs::Occurs;
+use crate::marks::Marks;
+use record::fields::Field;
 
-// Whether a subfield with this code may occur only once at this tag.
-fn is_code_once<F: Format>(format: &F, tag: u16, code: u8) -> bool
-    ensures { result ≡ only_once ((F.Format.meaning format.now).subfield tag code) }
-{
-    match format.subfield_occurs(tag, code) {
-        Occurs::Once => true,
-        Occurs::Absent | Occurs::Many => false,
-    }
-}
-
-// These subfields of a field, whose codes are marked as they come.
-fn check_repeated_codes<F: Format>(
-    format: &F,
-    tag: u16,
-    subfields: Subfields<'_>,
-) -> Result<(), FormatFault>
-    ensures { result ≡ verdict (repeated_codes (F.Format.meaning format.now) tag (subfields_left subfields.entry)) tt }
-{
-    let mut seen = [false; 256];
-    for subfield in subfields {
-        let code = subfield.code;
-        if !is_code_once(format, tag, code) {
-            continue;
+impl<'a, F: Format> RecordCheck<'a, F> {
+    // The subfields of a field, whose codes are marked as they come.
+    fn check_repeated_codes(&self, field: Field<'_>) -> Result<(), FormatFault>
+        ensures { result ≡ verdict (repeated_subfields (F.Format.meaning self.now.format.now) (seen_field field.entry)) tt }
+    {
+        let mut marks = Marks::<256>::new();
+        for subfield in field.subfields() {
+            let code = subfield.code;
+            if self.format.subfield_occurs(field.tag, code).is_once()
+                && marks.mark(usize::from(code))
+            {
+                return Err(FormatFault::RepeatedSubfield {
+                    place: subfield.place,
+                    tag: field.tag,
+                    code,
+                });
+            }
         }
-        if seen[code as usize] {
-            return Err(FormatFault::RepeatedSubfield {
-                place: subfield.place,
-                tag,
-                code,
-            });
+        Ok(())
+    }
+
+    // 27: no field has a second subfield of a code allowed once.
+    pub(crate) fn check_repeated_subfields(&self) -> Result<(), FormatFault>
+        ensures { result ≡ verdict (flat_map (repeated_subfields (F.Format.meaning self.now.format.now)) (fields_left self.now.fields)) tt }
+    {
+        let mut fields = self.fields;
+        fields.try_for_each(|field| self.check_repeated_codes(field))
+    }
+
+    // 28: no second field has a tag allowed once. The tags are marked as they come; a format has none above 999.
+    pub(crate) fn check_repeated_fields(&self) -> Result<(), FormatFault>
+        ensures { result ≡ verdict (repeated_fields (F.Format.meaning self.now.format.now) (fields_left self.now.fields)) tt }
+    {
+        let mut marks = Marks::<1000>::new();
+        for field in self.fields {
+            let tag = field.tag;
+            if self.format.tag_occurs(tag).is_once() && marks.mark(usize::from(tag)) {
+                return Err(FormatFault::RepeatedField {
+                    place: field.entry,
+                    tag,
+                });
+            }
         }
-        seen[code as usize] = true;
+        Ok(())
     }
-    Ok(())
-}
-
-// The subfields of a field; a control field has none.
-fn check_repeated_held<F: Format>(format: &F, field: Field<'_>) -> Result<(), FormatFault>
-    ensures { result ≡ verdict (repeated_subfields (F.Format.meaning format.now) (seen_field field.entry)) tt }
-{
-    match field.content {
-        Content::Control(_) => Ok(()),
-        Content::Data { subfields, .. } => check_repeated_codes(format, field.tag, subfields),
-    }
-}
-
-// 27: no field has a second subfield of a code allowed once.
-pub(crate) fn check_repeated_subfields<F: Format>(
-    format: &F,
-    fields: Fields<'_>,
-) -> Result<(), FormatFault>
-    ensures { result ≡ verdict (flat_map (repeated_subfields (F.Format.meaning format.now)) (fields_left fields.entry)) tt }
-{
-    for field in fields {
-        check_repeated_held(format, field)?;
-    }
-    Ok(())
-}
-
-// Whether a field with this tag may occur only once.
-fn is_tag_once<F: Format>(format: &F, tag: u16) -> bool
-    ensures { result ≡ only_once ((F.Format.meaning format.now).occurs tag) }
-{
-    match format.tag_occurs(tag) {
-        Occurs::Once => true,
-        Occurs::Absent | Occurs::Many => false,
-    }
-}
-
-// 28: no second field has a tag allowed once. The tags are marked as they come; a format has none above 999.
-pub(crate) fn check_repeated_fields<F: Format>(
-    format: &F,
-    fields: Fields<'_>,
-) -> Result<(), FormatFault>
-    ensures { result ≡ verdict (repeated_fields (F.Format.meaning format.now) (fields_left fields.entry)) tt }
-{
-    let mut seen = [false; 1000];
-    for field in fields {
-        let tag = field.tag;
-        if !is_tag_once(format, tag) {
-            continue;
-        }
-        if seen[tag as usize] {
-            return Err(FormatFault::RepeatedField {
-                place: field.entry,
-                tag,
-            });
-        }
-        seen[tag as usize] = true;
-    }
-    Ok(())
 }

@@ -1,5 +1,6 @@
 -- The table of rows that pass the check obeys the laws of every format. Assumes nothing.
-use Rattle.std.proofs.Common.{◌≡◌, ℕ, suc, ◌-◌, ◌<◌, Bool, true, false, cond, ◌&&◌, eqb, leb, ◌⊎◌, List, [], ◌∷◌, length, get_or, sym, refl, ap, ◌∙◌, subst, inl, inr, ⊎_elim, arith}
+use Rattle.std.proofs.Common.{◌≡◌, ℕ, suc, Some, unwrap_or, ◌-◌, ◌<◌, Bool, true, false, cond, ◌&&◌, eqb, leb, ◌⊎◌, List, [], ◌∷◌, length, get_or, sym, refl, ap, ◌∙◌, subst, inl, inr, ⊎_elim, arith}
+use Rattle.std.specs.List.{list_all}
 use Rattle.std.proofs.lemmas.Bool.{and_from, and_left, and_parts, and_right, both_ways, cases_Bool, cases_eq, eq-eqb, eqb-true, le-leb, leb-true, lt-leb, ne_eqb, or_cases, or_left}
 use Rattle.record.specs.Classes.{code_character, code_position, subfield_code, within}
 use Rattle.record.proofs.Ranges.{every}
@@ -7,16 +8,16 @@ use Rattle.record.proofs.Verdicts.{holds, parts}
 use Rattle.rows.specs.declared.faults.RowFault.{RowFault}
 use Rattle.rows.specs.declared.occurs.Occurs.TheVariants.{Absent, Once, Many}
 use Rattle.rows.specs.Faults.{leader_fault, leader_faults, no_fault, row_at, row_fault, row_faults, row_rule, rows_faults, sound, tag_before, tag_fault, tag_faults, tag_rule}
-use Rattle.rows.specs.Rows.{PlainRow, PlainRows, find, indicator_set, no_row, place_of, subfield_in, table}
-use Rattle.rows.specs.Sets.{each, empty, has, some_characters, subfield_codes}
+use Rattle.rows.specs.Rows.{PlainRow, PlainRows, find, indicator_set, no_row, place_of, row_of, subfield_in, table}
+use Rattle.rows.specs.Sets.{empty, has, some_characters, subfield_codes}
 use Rattle.rows.specs.Table.{Lawful, data_tag, indicator_number, open_tag, present, tag}
 
 -- ---- sets
 
-has_each : (p : ℕ → Bool) (s : List ℕ) (c : ℕ) → each p s ≡ true → has s c ≡ true → p c ≡ true
+has_each : (p : ℕ → Bool) (s : List ℕ) (c : ℕ) → list_all p s ≡ true → has s c ≡ true → p c ≡ true
 has_each p [] c e h = absurd (both_ways _ refl h)
 has_each p (x ∷ xs) c e h =
-    let ps = and_parts (p x) (each p xs) e in
+    let ps = and_parts (p x) (list_all p xs) e in
     ⊎_elim (λ here. subst (λ y. p y ≡ true) (eqb-true x c here) ps.0) (λ later. has_each p xs c ps.1 later) (or_cases (eqb x c) (has xs c) h)
 
 has_none : (s : List ℕ) (c : ℕ) → empty s ≡ true → has s c ≡ true → ⊥
@@ -105,7 +106,7 @@ record Stands (rows : List PlainRow) (g : ℕ) (r : PlainRow) : Type 0 where
 found : (rows : List PlainRow) (g : ℕ) → (find rows g ≡ no_row) ⊎ Stands rows g (find rows g)
 found [] g = inl refl
 found (r ∷ rs) g =
-    let F : Bool → PlainRow = λ b. cond b r (find rs g) in
+    let F : Bool → PlainRow = λ b. unwrap_or (cond b (Some r) (row_of rs g)) no_row in
     ⊎_elim
     (λ e. inr (subst (λ b. Stands (r ∷ rs) g (F b)) (sym e) (record { at = 0; listed = omega arith; is = refl; same = eqb-true _ _ e })))
     (λ e. subst (λ b. (F b ≡ no_row) ⊎ Stands (r ∷ rs) g (F b)) (sym e)
@@ -146,17 +147,14 @@ module _ (s : PlainRows) (passed : sound s ≡ true) where
     row_right = holds _ _ (every (row_fault s.rows) (length s.rows) checks.1 k listed)
 
   module _ (g : ℕ) where
-    row : PlainRow
-    row = find s.rows g
-
     -- a tag that has a row
     record Right : Type 0 where
       in_range : tag g ≡ true
       same : (find s.rows g).tag ≡ g
       right : row_rule (find s.rows g) ≡ true
 
-    row_of : (find s.rows g ≡ no_row) ⊎ Right
-    row_of =
+    right_row : (find s.rows g ≡ no_row) ⊎ Right
+    right_row =
         ⊎_elim inl
         (λ w. inr (record {
           in_range = subst (λ n. tag n ≡ true) (ap (λ r. r.tag) (sym w.is) ∙ w.same) (tag_right w.at w.listed);
@@ -177,14 +175,14 @@ module _ (s : PlainRows) (passed : sound s ≡ true) where
         (λ f. inl (and_from (data_tag g) _ (is true f.0) (and_parts (present r.occurs) _ w.right).0, f.1))
         (λ b. inr (and_left (data_tag g) _ (is false b.0), b.1))
         (codes_of r w.right))
-        row_of
+        right_row
 
   pub rows_lawful : Lawful (table s)
   rows_lawful = record {
     leader_within = λ p c h.
         let ps = and_parts (code_position p) _ h in
         (ps.0, character _ c (set_right p ps.0) ps.1);
-    tag_within = λ g h. ⊎_elim (λ e. absurd (both_ways _ (ap (λ r. present r.occurs) e) h)) (λ w. w.in_range) (row_of g);
+    tag_within = λ g h. ⊎_elim (λ e. absurd (both_ways _ (ap (λ r. present r.occurs) e) h)) (λ w. w.in_range) (right_row g);
     indicator_within = λ g i c h.
         let in_set = indicator_in (find s.rows g) i c h in
         ⊎_elim

@@ -1,4 +1,5 @@
 pub mod Searches
+pub mod Pairs
 pub mod Steps
 pub mod Laws
 pub mod Passing

@@ -9,7 +9,7 @@ use Rattle.rows.specs.Shipped.{rows_of}
 use Rattle.rows.specs.Table.{Lawful}
 use Rattle.rows.proofs.Laws.{rows_lawful}
 
-shipped_sound : (f : Shipped) → sound (rows_of f) ≡ true
+pub shipped_sound : (f : Shipped) → sound (rows_of f) ≡ true
 unfolding rows_faults from
 shipped_sound BibliographicSource = refl
 shipped_sound BibliographicTarget = refl

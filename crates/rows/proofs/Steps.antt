@@ -1,7 +1,7 @@
--- The steps of the row check: one code, one row or one leader set more. Assumes nothing.
-use Rattle.std.proofs.Common.{◌≡◌, ℕ, ◌+◌, ◌<◌, ◌≤◌, Bool, true, false, ◌&&◌, List, map, length, get_or, drop, Ok, Err, sym, refl, ap, ◌∙◌, add-one}
+-- The steps of the check of tags: one row more. Assumes nothing.
+use Rattle.std.proofs.Common.{◌≡◌, ℕ, ◌+◌, ◌<◌, ◌≤◌, Bool, true, false, List, map, length, get_or, Ok, Err, sym, ap, ◌∙◌, add-one}
 use lib.ListN.{length-map}
-use Rattle.std.proofs.lemmas.List.{at_drop_more, get_or-map}
+use Rattle.std.proofs.lemmas.List.{get_or-map}
 use Rattle.record.specs.Rules.{over, rule, verdict}
 use Rattle.record.proofs.Ranges.{broken, ended, kept}
 use Rattle.rows.specs.declared.rows.Row.{Row}
@@ -9,15 +9,6 @@ use Rattle.rows.specs.declared.faults.RowFault.{RowFault}
 use Rattle.rows.specs.declared.faults.RowFault.TheVariants.{Tag}
 use Rattle.rows.specs.Faults.{row_at, tag_before, tag_faults, tag_rule}
 use Rattle.rows.specs.Rows.{no_row, seen_row}
-use Rattle.rows.specs.Sets.{each}
-
--- a set whose codes are tested one after the other
-module _ (p : ℕ → Bool) (set : List ℕ) (i : ℕ) (within : i < length set) where
-  pub each_more : p (get_or set i 0) ≡ true → each p (drop i set) ≡ each p (drop (i + 1) set)
-  each_more e = at_drop_more (each p) set i 0 within ∙ ap (λ b. b && each p (drop (i + 1) set)) e
-
-  pub each_stop : p (get_or set i 0) ≡ false → each p (drop i set) ≡ false
-  each_stop e = at_drop_more (each p) set i 0 within ∙ ap (λ b. b && each p (drop (i + 1) set)) e
 
 -- row k, as the check reads it
 module _ (rows : List Row) (k : ℕ) (within : k < length rows) where
@@ -39,9 +30,6 @@ module _ (rows : List Row) where
   pub record TagsPassed (k before : ℕ) : Type 0 where
     pub left_are : tag_faults (map seen_row rows) ≡ left k
     pub before_is : before ≡ tag_before (map seen_row rows) k
-
-  pub tags_begin : TagsPassed 0 0
-  tags_begin = record { left_are = refl; before_is = refl }
 
   module _ {k before : ℕ} (passed : TagsPassed k before) where
     pub tags_end : length rows ≤ k → Ok (tt {0}) ≡ verdict (tag_faults (map seen_row rows)) (tt {0})

@@ -1,6 +1,7 @@
 -- A format by its rows: eight leader sets, and a row for each tag. Which table they mean. Assumes nothing.
-use Rattle.std.specs.Prelude.{ℕ, ◌-◌, cond, ◌&&◌, List, [], ◌∷◌, map, ◌==◌, nat_le, slice_index_or}
+use Rattle.std.specs.Prelude.{ℕ, ◌-◌, cond, ◌&&◌, List, [], map, Option, ◌==◌, nat_le, slice_index_or, unwrap_or}
 use Rattle.std.specs.Borrow.{Bor}
+use Rattle.std.specs.List as list
 use Rattle.record.specs.Classes.{code_position}
 use Rattle.rows.specs.declared.occurs.Occurs.{Occurs}
 use Rattle.rows.specs.declared.occurs.Occurs.TheVariants.{Absent, Once, Many}
@@ -41,10 +42,13 @@ place_of p = cond (nat_le p 9) (p - 5) (p - 12)
 abbrev pub no_row : PlainRow
 no_row = record { tag = 0; occurs = Absent; first = []; second = []; once = []; many = [] }
 
--- the row of a tag
+-- the first row of a tag, where there is one
+abbrev pub row_of : List PlainRow → ℕ → Option PlainRow
+row_of rows g = list.find (λ r. r.tag == g) rows
+
+-- that row, or the one of a tag that the rows lack
 abbrev pub find : List PlainRow → ℕ → PlainRow
-find [] g = no_row
-find (r ∷ rs) g = cond (r.tag == g) r (find rs g)
+find rows g = unwrap_or (row_of rows g) no_row
 
 -- the codes of the first or the second indicator
 abbrev pub indicator_set : PlainRow → ℕ → List ℕ

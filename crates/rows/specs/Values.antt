@@ -2,12 +2,13 @@
 use Rattle.std.specs.Prelude.{ℕ}
 use Rattle.record.specs.declared.faults.Layer.TheVariants.{Format}
 use Rattle.record.specs.declared.faults.Values.{Values}
+use Rattle.record.specs.Values.{values_at}
 use Rattle.rows.specs.declared.faults.RowFault.{RowFault}
 use Rattle.rows.specs.declared.faults.RowFault.TheVariants.{Tag, Row, Leader}
 
--- the row check tells a number and a place, and leaves tag, indicator and code at 0
+-- the row check tells a number and a place
 abbrev pub row_values : ℕ → ℕ → Values
-row_values n p = record { number = n; layer = Format; place = p; tag = 0; indicator = 0; code = 0 }
+row_values n p = values_at Format n p
 
 -- the place is the row, counted from 0, or the leader position
 abbrev pub values_of : RowFault → Values

@@ -1,5 +1,5 @@
 // The row check.
-ghost use Rattle.std.specs.Prelude.{◌≡◌, map, length};
+ghost use Rattle.std.specs.Prelude.{◌≡◌, map};
 ghost use Rattle.record.specs.Rules.{verdict};
 ghost use Rattle.rows.specs.Faults.{leader_faults, row_faults, row_rule, rows_faults, tag_faults, tag_rule};
 ghost use Rattle.rows.specs.Rows.{seen_row, seen_rows, seen_sets};
@@ -15,24 +15,14 @@ use record::leader::positions;
 fn are_subfield_codes(set: &[u8]) -> bool
     ensures { result ≡ subfield_codes set.now }
 {
-    for code in set {
-        if !is_subfield_code(*code) {
-            return false;
-        }
-    }
-    true
+    set.iter().all(|code| is_subfield_code(*code))
 }
 
 // Whether the set has some codes of a leader position or an indicator, and no others.
 fn are_some_characters(set: &[u8]) -> bool
     ensures { result ≡ some_characters set.now }
 {
-    for code in set {
-        if !is_code_character(*code) {
-            return false;
-        }
-    }
-    !set.is_empty()
+    !set.is_empty() && set.iter().all(|code| is_code_character(*code))
 }
 
 // Whether the tag is from 1 to 999 and above the one before.
@@ -81,27 +71,23 @@ fn check_tags(rows: &[Row]) -> Result<(), RowFault>
 fn check_rows(rows: &[Row]) -> Result<(), RowFault>
     ensures { result ≡ verdict (row_faults (map seen_row rows.now)) tt }
 {
-    for (k, row) in rows.iter().enumerate() {
-        if !row_holds(row) {
-            return Err(RowFault::Row { row: k });
-        }
+    match rows.iter().position(|row| !row_holds(row)) {
+        Some(row) => Err(RowFault::Row { row }),
+        None => Ok(()),
     }
-    Ok(())
 }
 
 // The first fault among the leader sets, or none.
-fn check_leader(sets: &[&[u8]]) -> Result<(), RowFault>
-    requires { length sets.now ≡ 8 }
+fn check_leader(sets: &[&[u8]; 8]) -> Result<(), RowFault>
     ensures { result ≡ verdict (leader_faults (seen_sets sets.now)) tt }
 {
-    for (k, set) in sets.iter().enumerate() {
-        if !are_some_characters(set) {
-            return Err(RowFault::Leader {
-                position: positions()[k],
-            });
-        }
+    let mut placed = positions().iter().zip(sets);
+    match placed.find(|(_, set)| !are_some_characters(set)) {
+        Some((position, _)) => Err(RowFault::Leader {
+            position: *position,
+        }),
+        None => Ok(()),
     }
-    Ok(())
 }
 
 impl<'a> FormatRows<'a> {

@@ -1,8 +1,11 @@
 // What is wrong with the rows of a format, and where.
-ghost use Rattle.std.specs.Prelude.{◌≡◌};
-ghost use Rattle.rows.specs.Values.{row_values, values_of};
+ghost use Rattle.std.specs.Prelude.{◌≡◌, Some};
+ghost use Rattle.rows.specs.Values.{values_of};
+ghost use Rattle.rows.specs.Words.{words_of};
 
-use record::faults::{Layer, Values};
+use record::faults::{Layer, Refusal, Values};
+use std::error::Error;
+use std::fmt;
 
 // A rule that rows break. Each case has its six values by `values_of` of specs/Values.antt.
 #[derive(Clone, Copy, PartialEq, Eq, Debug)]
@@ -15,28 +18,39 @@ pub enum RowFault {
     Leader { position: usize },
 }
 
-impl RowFault {
-    pub fn values(&self) -> Values
-        ensures { result ≡ values_of self.now }
-    {
+impl Refusal for RowFault {
+    ghost meaning = { values_of };
+
+    fn values(&self) -> Values {
         match *self {
-            RowFault::Tag { row } => row_values(7, row),
-            RowFault::Row { row } => row_values(8, row),
-            RowFault::Leader { position } => row_values(9, position),
+            RowFault::Tag { row } => Values::at(Layer::Format, 7, row),
+            RowFault::Row { row } => Values::at(Layer::Format, 8, row),
+            RowFault::Leader { position } => Values::at(Layer::Format, 9, position),
         }
     }
 }
 
-// The values of a refusal by the row check, which has a number and a place.
-fn row_values(number: u8, place: usize) -> Values
-    ensures { result ≡ row_values number place }
-{
-    Values {
-        number,
-        layer: Layer::Format,
-        place,
-        tag: 0,
-        indicator: 0,
-        code: 0,
+impl fmt::Display for RowFault {
+    ghost output = { λ f. Some (words_of f) };
+
+    fn fmt<W: fmt::Write>(&self, f: &mut fmt::Formatter<W>) -> fmt::Result {
+        f.write_str(self.words())
+    }
+}
+
+impl Error for RowFault {}
+
+impl RowFault {
+    // What it means.
+    fn words(&self) -> &'static str
+        ensures { result.now ≡ words_of self.now }
+    {
+        match *self {
+            RowFault::Tag { .. } => "the tag is outside 1 to 999, or not above the one before",
+            RowFault::Row { .. } =>
+                "the row marks its tag absent, has a wrong character, or lacks a code at an indicator of a data tag; or it has one at a control tag",
+            RowFault::Leader { .. } =>
+                "the set of a leader position is empty or has a wrong character",
+        }
     }
 }

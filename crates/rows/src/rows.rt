@@ -1,7 +1,7 @@
 // Rows of tags, and the answers that they give.
-ghost use Rattle.std.specs.Prelude.{◌≡◌};
-ghost use Rattle.rows.specs.Rows.{find as found, seen_row, seen_rows, table};
-ghost use Rattle.rows.specs.Sets.{has as member};
+ghost use Rattle.std.specs.Prelude.{◌≡◌, option_map};
+ghost use Rattle.rows.specs.Rows.{indicator_set, row_of, seen_row, seen_rows, subfield_in, table};
+ghost use Rattle.rows.specs.Sets.{has};
 
 use crate::occurs::Occurs;
 
@@ -24,31 +24,38 @@ pub struct FormatRows<'a> {
     pub rows: &'a [Row<'a>],
 }
 
-// Whether `code` is in `set`.
-fn has(set: &[u8], code: u8) -> bool
-    ensures { result ≡ member set.now code }
-{
-    set.contains(&code)
+impl<'a> Row<'a> {
+    // Whether `code` is one of the codes of indicator 1 or 2.
+    fn admits_indicator(&self, indicator: u8, code: u8) -> bool
+        ensures { result ≡ has (indicator_set (seen_row self.now) indicator) code }
+    {
+        match indicator {
+            1 => self.first.contains(&code),
+            2 => self.second.contains(&code),
+            _ => false,
+        }
+    }
+
+    // How often a subfield with this code may occur. A code that stands in both sets is allowed many times.
+    fn subfield_occurs(&self, code: u8) -> Occurs
+        ensures { result ≡ subfield_in (seen_row self.now) code }
+    {
+        if self.many.contains(&code) {
+            Occurs::Many
+        } else if self.once.contains(&code) {
+            Occurs::Once
+        } else {
+            Occurs::Absent
+        }
+    }
 }
 
 impl<'a> FormatRows<'a> {
-    // The row of `tag`, or one that marks it absent.
-    fn find(&self, tag: u16) -> Row<'a>
-        ensures { seen_row result ≡ found (seen_rows self.now).rows tag }
+    // The row of `tag`, where there is one.
+    fn find(&self, tag: u16) -> Option<&'a Row<'a>>
+        ensures { option_map (λ row. seen_row row.now) result ≡ row_of (seen_rows self.now).rows tag }
     {
-        for row in self.rows {
-            if row.tag == tag {
-                return *row;
-            }
-        }
-        Row {
-            tag: 0,
-            occurs: Occurs::Absent,
-            first: b"",
-            second: b"",
-            once: b"",
-            many: b"",
-        }
+        self.rows.iter().find(|row| row.tag == tag)
     }
 
     // Whether `code` is admitted at this position of the leader.
@@ -56,8 +63,8 @@ impl<'a> FormatRows<'a> {
         ensures { result ≡ (table (seen_rows self.now)).leader position code }
     {
         match position {
-            5..=9 => has(self.leader[position - 5], code),
-            17..=19 => has(self.leader[position - 12], code),
+            5..=9 => self.leader[position - 5].contains(&code),
+            17..=19 => self.leader[position - 12].contains(&code),
             _ => false,
         }
     }
@@ -66,32 +73,22 @@ impl<'a> FormatRows<'a> {
     pub fn tag_occurs(&self, tag: u16) -> Occurs
         ensures { result ≡ (table (seen_rows self.now)).occurs tag }
     {
-        self.find(tag).occurs
+        self.find(tag).map_or(Occurs::Absent, |row| row.occurs)
     }
 
     // Whether `code` is admitted as indicator 1 or 2 of `tag`.
     pub fn admits_indicator(&self, tag: u16, indicator: u8, code: u8) -> bool
         ensures { result ≡ (table (seen_rows self.now)).indicator tag indicator code }
     {
-        let row = self.find(tag);
-        match indicator {
-            1 => has(row.first, code),
-            2 => has(row.second, code),
-            _ => false,
-        }
+        self.find(tag)
+            .is_some_and(|row| row.admits_indicator(indicator, code))
     }
 
-    // How often a subfield of `tag` with this code may occur. A code that stands in both sets is allowed many times.
+    // How often a subfield of `tag` with this code may occur.
     pub fn subfield_occurs(&self, tag: u16, code: u8) -> Occurs
         ensures { result ≡ (table (seen_rows self.now)).subfield tag code }
     {
-        let row = self.find(tag);
-        if has(row.many, code) {
-            Occurs::Many
-        } else if has(row.once, code) {
-            Occurs::Once
-        } else {
-            Occurs::Absent
-        }
+        self.find(tag)
+            .map_or(Occurs::Absent, |row| row.subfield_occurs(code))
     }
 }

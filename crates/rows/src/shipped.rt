@@ -1,8 +1,7 @@
 // The shipped formats: a row for each tag, to be read beside the published tables. A blank in a set is the blank, #.
 ghost use Rattle.std.specs.Prelude.{◌≡◌};
 ghost use Rattle.rows.specs.Rows.{seen_rows};
-ghost use Rattle.rows.specs.Shipped.Side.{source, target};
-ghost use Rattle.rows.specs.Shipped.{authority, bibliographic, rows_of};
+ghost use Rattle.rows.specs.Shipped.{rows_of};
 
 use crate::occurs::Occurs::{Many, Once};
 use crate::rows::{FormatRows, Row};
@@ -112,39 +111,15 @@ const AUTHORITY_TARGET: FormatRows<'static> = FormatRows {
     ],
 };
 
-fn bibliographic_source() -> FormatRows<'static>
-    ensures { seen_rows result ≡ bibliographic source }
-{
-    BIBLIOGRAPHIC_SOURCE
-}
-
-fn bibliographic_target() -> FormatRows<'static>
-    ensures { seen_rows result ≡ bibliographic target }
-{
-    BIBLIOGRAPHIC_TARGET
-}
-
-fn authority_source() -> FormatRows<'static>
-    ensures { seen_rows result ≡ authority source }
-{
-    AUTHORITY_SOURCE
-}
-
-fn authority_target() -> FormatRows<'static>
-    ensures { seen_rows result ≡ authority target }
-{
-    AUTHORITY_TARGET
-}
-
 impl Shipped {
     pub fn rows(self) -> FormatRows<'static>
         ensures { seen_rows result ≡ rows_of self }
     {
         match self {
-            Shipped::BibliographicSource => bibliographic_source(),
-            Shipped::BibliographicTarget => bibliographic_target(),
-            Shipped::AuthoritySource => authority_source(),
-            Shipped::AuthorityTarget => authority_target(),
+            Shipped::BibliographicSource => BIBLIOGRAPHIC_SOURCE,
+            Shipped::BibliographicTarget => BIBLIOGRAPHIC_TARGET,
+            Shipped::AuthoritySource => AUTHORITY_SOURCE,
+            Shipped::AuthorityTarget => AUTHORITY_TARGET,
         }
     }
 }

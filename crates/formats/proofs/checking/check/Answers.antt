@@ -14,21 +14,21 @@ returns-in_err-parts g c =
     let bs = c.args.record.now in
     subst (Verdict (format_faults M bs) (Reads bs)) (sym (returned _ _ c.from_residual.ensures.1)) (refused_frame M bs (Reads bs) _ c.in_err-parts.ensures)
 
-pub check_parts-requires : goal.check_parts-requires
-check_parts-requires g c =
+pub invariant_of-record_check : goal.invariant_of-record_check
+invariant_of-record_check g c =
     let bs = c.args.record.now in
     let r = c.in_ok-parts.parts in
-    read_places bs r _ (known (Reads bs) (frame_faults bs) r c.in_ok-parts.ensures) c.fields.ensures.left
+    record { small = read_places bs r _ (known (Reads bs) (frame_faults bs) r c.in_ok-parts.ensures) c.fields.ensures.left }
 
-pub returns-in_err-check_parts : goal.returns-in_err-check_parts
-returns-in_err-check_parts g c =
+pub returns-in_err-run : goal.returns-in_err-run
+returns-in_err-run g c =
     let M = g.F.Format.meaning c.args.format.now in
     let bs = c.args.record.now in
     let r = c.in_ok-parts.parts in
     let read = known (Reads bs) (frame_faults bs) r c.in_ok-parts.ensures in
     let same = handed M bs r _ _ read c.codes.ensures c.fields.ensures.left in
-    subst (Verdict (format_faults M bs) (Reads bs)) (sym (returned _ _ c.from_residual-in_err-check_parts.ensures.1))
-    (refused_parts M bs (Reads bs) tt _ read.framed (c.in_err-check_parts.ensures ∙ ap (λ l. verdict l tt) same))
+    subst (Verdict (format_faults M bs) (Reads bs)) (sym (returned _ _ c.from_residual-in_err-run.ensures.1))
+    (refused_parts M bs (Reads bs) tt _ read.framed (c.in_err-run.ensures ∙ ap (λ l. verdict l tt) same))
 
 pub returns : goal.returns
 returns g c =
@@ -37,4 +37,4 @@ returns g c =
     let r = c.in_ok-parts.parts in
     let read = known (Reads bs) (frame_faults bs) r c.in_ok-parts.ensures in
     let same = handed M bs r _ _ read c.codes.ensures c.fields.ensures.left in
-    accepted M bs (Reads bs) read.framed (sym same ∙ none _ _ _ c.in_ok-check_parts.ensures) r read
+    accepted M bs (Reads bs) read.framed (sym same ∙ none _ _ _ c.in_ok-run.ensures) r read

@@ -1,29 +1,25 @@
--- Each turn passes a right set, or has found the first wrong one.
-use Rattle.std.proofs.Common.{[], get_or, Err, sym, ap, ◌∙◌, arith}
-use Rattle.std.proofs.lemmas.List.{get_or-map}
+-- The search over positions and sets gives the first set that breaks its rule, with its position.
+use Rattle.std.proofs.Common.{◌≡◌, true, false, [], refl, arith, rules, tests}
+use Rattle.std.proofs.lemmas.Iterator.{YieldsList-from_slice, YieldsList-from_zip, first_from_find}
 use Rattle.record.specs.Leader.{code_positions}
-use Rattle.record.specs.Rules.{verdict}
-use Rattle.record.proofs.Ranges.{broken, ended, kept}
 use Rattle.rows.specs.declared.faults.RowFault.TheVariants.{Leader}
-use Rattle.rows.specs.Faults.{leader_fault}
-use Rattle.rows.specs.Rows.{seen_sets}
 use Rattle.rows.specs.Sets.{some_characters}
+use Rattle.rows.proofs.Pairs.{FoundBeside, first_beside, none_beside}
 use Rattle.rows.proofs.checking.check_leader.Goals as goal
+use Rattle.rows.proofs.checking.check_leader.Goals.{After-find}
 
-pub loop-k-preserved : goal.loop-k-preserved
-loop-k-preserved c =
-    let sets = c.args.sets.now in
-    let within = c.loop-k-test.true in
-    c.loop-k.invariant
-    ∙ kept (λ k. some_characters (get_or (seen_sets sets) k [])) (λ k. Leader (get_or code_positions k 0)) _ 8 (omega (arith, within, c.requires)) (c.if-not-are_some_characters.ensures ∙ ap some_characters (sym (get_or-map (λ s. s.now) sets _ _ [] within)))
+first : (c : After-find) → FoundBeside (λ p s. some_characters s.now) code_positions c.args.sets.now c.find.result
+first c =
+    first_from_find c.find.new.self _ c.find.result (λ p. some_characters p.1.now ≡ false) (λ p. some_characters p.1.now ≡ true) c.find.ensures.ran
+    (YieldsList-from_zip (YieldsList-from_slice code_positions cc) (YieldsList-from_slice c.args.sets.now cc))
+    (λ p q k. search (rules, tests)) (λ p q k. search (rules, tests))
 
-pub returns-then-not-are_some_characters : goal.returns-then-not-are_some_characters
-returns-then-not-are_some_characters c =
-    let sets = c.args.sets.now in
-    let within = c.loop-k-test.true in
-    ap (λ ps. Err (Leader (get_or ps c.loop-k.k 0))) c.positions.ensures
-    ∙ sym (ap (λ l. verdict l tt) c.loop-k.invariant
-    ∙ broken (λ k. some_characters (get_or (seen_sets sets) k [])) (λ k. Leader (get_or code_positions k 0)) _ 8 (omega (arith, within, c.requires)) tt (c.if-not-are_some_characters.ensures ∙ ap some_characters (sym (get_or-map (λ s. s.now) sets _ _ [] within))))
+pub returns-in-Some : goal.returns-in-Some
+returns-in-Some c =
+    first_beside (λ s. s.now) (λ p s. some_characters s) (λ p s. Leader p) 0 [] tt code_positions c.args.sets.now 8 refl (omega arith) _ _ _ c.in-Some.is
+    (first (goal.at.returns-in-Some c).After-find)
 
-pub returns : goal.returns
-returns c = sym (ap (λ l. verdict l tt) (c.loop-k.invariant ∙ ended (leader_fault (seen_sets c.args.sets.now)) _ 8 (omega (arith, c.loop-k-test.false, c.requires))))
+pub returns-in-None : goal.returns-in-None
+returns-in-None c =
+    none_beside (λ s. s.now) (λ p s. some_characters s) (λ p s. Leader p) 0 [] tt code_positions c.args.sets.now 8 refl (omega arith) _ c.in-None.is
+    (first (goal.at.returns-in-None c).After-find)

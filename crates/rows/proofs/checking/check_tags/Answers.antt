@@ -1,9 +1,6 @@
 -- Each turn passes a right tag, or has found the first wrong one.
-use Rattle.rows.proofs.Steps.{tags_begin, tags_end, tags_on, tags_stop}
+use Rattle.rows.proofs.Steps.{tags_end, tags_on, tags_stop}
 use Rattle.rows.proofs.checking.check_tags.Goals as goal
-
-pub loop-k-init : goal.loop-k-init
-loop-k-init c = tags_begin c.args.rows.now
 
 pub loop-k-preserved : goal.loop-k-preserved
 loop-k-preserved c = tags_on c.args.rows.now c.loop-k.invariant _ c.loop-k-test.true c.if-not-tag_holds.ensures

@@ -1,8 +1,0 @@
--- The faults of all subfields are those of the subfields that are left, after the codes that are marked.
-use Rattle.record.specs.Cursors.{subfields_left}
-use Rattle.formats.specs.Faults.{code_of, second_subfield}
-use Rattle.formats.proofs.Marks.{Repeating}
-use Rattle.formats.proofs.repeating.check_repeated_codes.Given as goal
-
-abbrev pub invariant-loop-subfield : goal.invariant-loop-subfield
-invariant-loop-subfield g l = Repeating ((g.F.Format.meaning l.format).subfield l.tag) code_of (second_subfield l.tag) 256 (subfields_left l.initial.subfield-iterator) l.seen (subfields_left l.subfield-iterator)

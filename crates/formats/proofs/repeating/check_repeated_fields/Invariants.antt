@@ -1,8 +1,0 @@
--- The faults of all fields are those of the fields that are left, after the tags that are marked.
-use Rattle.record.specs.Cursors.{fields_left}
-use Rattle.formats.specs.Faults.{second_field}
-use Rattle.formats.proofs.Marks.{Repeating}
-use Rattle.formats.proofs.repeating.check_repeated_fields.Given as goal
-
-abbrev pub invariant-loop-field : goal.invariant-loop-field
-invariant-loop-field g l = Repeating (g.F.Format.meaning l.format).occurs (λ f. f.tag) second_field 1000 (fields_left l.initial.field-iterator) l.seen (fields_left l.field-iterator)
