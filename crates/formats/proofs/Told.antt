@@ -1,8 +1,7 @@
 -- A check of a format's record: a fault of the frame comes first, then those of codes and fields, whose places stand in the record. Assumes nothing.
 use Rattle.std.proofs.Common.{◌≡◌, ℕ, ◌<◌, List, [], ◌∷◌, ◌++◌, map, length, drop, Err, Ok, sym, ap, ◌∙◌, subst, arith, length-append, length-drop, length-take}
-use Rattle.std.specs.List.{All, AllByRecursion}
-use Rattle.std.proofs.ByRecursion.{All-weaker}
-use Rattle.std.proofs.lemmas.List.Elements.{All-from_recursion}
+use Rattle.std.specs.List.{All}
+use Rattle.std.proofs.lemmas.List.Elements.{All-weaker}
 use Rattle.record.specs.declared.faults.FrameFault.{FrameFault}
 use Rattle.record.specs.declared.reading.Record.{Record}
 use Rattle.record.specs.Cursors.{bytes_in, fields_in}
@@ -61,8 +60,8 @@ within bs f short s =
     let more = length-drop f.place bs in
     omega arith
 
-places : (bs : List ℕ) → length bs < 100000 → AllByRecursion (Stands bs) (fields_of bs) → All (λ f. f.place < 100000) (fields_of bs)
-places bs short stand = All-from_recursion (λ f. f.place < 100000) (fields_of bs) (All-weaker (Stands bs) (λ f. f.place < 100000) (λ f s. within bs f short s) (fields_of bs) stand)
+places : (bs : List ℕ) → length bs < 100000 → All (Stands bs) (fields_of bs) → All (λ f. f.place < 100000) (fields_of bs)
+places bs short stand = All-weaker (Stands bs) (λ f. f.place < 100000) (λ f s. within bs f short s) (fields_of bs) stand
 
 -- the places of the fields of a record that was read, as its cursor has them
 pub read_places : (bs : List ℕ) (r : Record) (fs : List PlacedField) → Reads bs r → fs ≡ fields_in r → All (λ f. f.place < 100000) fs

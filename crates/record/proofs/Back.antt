@@ -1,8 +1,8 @@
 -- The frame of what is laid out from well-formed parts holds. Assumes nothing.
 use Rattle.std.proofs.Common.{◌≡◌, ℕ, zero, suc, ◌+◌, ◌*◌, ◌<◌, ◌≤◌, true, List, [], ◌∷◌, map, length, get_or, take, sym, refl, ap, ◌∙◌, arith, length-append}
 use lib.ListN.{length-map}
-use Rattle.std.specs.List.{AllByRecursion}
-use Rattle.std.proofs.ByRecursion.{All-get_or}
+use Rattle.std.specs.List.{All}
+use Rattle.std.proofs.lemmas.List.Elements.{All-cons, All-get_or, All-head, All-nil, All-tail}
 use Rattle.std.proofs.lemmas.List.{get_or-map, length_push, take_at}
 use Rattle.std.proofs.lemmas.Bool.{and_from, eq-eqb, le-leb}
 use Rattle.record.specs.declared.extent.Extent.{Extent}
@@ -29,9 +29,13 @@ field_fits (Control tag bs) (low, high, text) h =
 field_fits (Data tag i j ss) (low, high, first, second, some, ok) h =
     record { some_tag = omega arith; small_tag = omega arith; some_size = omega arith; small_size = omega arith }
 
-fields_fit : (fs : List Field) → AllByRecursion FormedField fs → AllByRecursion (λ f. length (field_laid f) ≤ 9999) fs → AllByRecursion Fits (map extent fs)
-fields_fit [] ok h = tt
-fields_fit (f ∷ fs) ok h = (field_fits f ok.0 h.0, fields_fit fs ok.1 h.1)
+fields_fit : (fs : List Field) → All FormedField fs → All (λ f. length (field_laid f) ≤ 9999) fs → All Fits (map extent fs)
+fields_fit [] ok h = All-nil Fits
+fields_fit (f ∷ fs) ok h =
+    let short = λ (g : Field). length (field_laid g) ≤ 9999 in
+    All-cons Fits (extent f) (map extent fs)
+    (field_fits f (All-head FormedField f fs ok) (All-head short f fs h))
+    (fields_fit fs (All-tail FormedField f fs ok) (All-tail short f fs h))
 
 pub length_fields : (fs : List Field) → total (map extent fs) ≡ length (fields_laid fs)
 length_fields [] = refl

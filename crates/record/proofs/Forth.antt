@@ -1,6 +1,7 @@
 -- A record whose frame holds is well-formed parts, laid out. Assumes nothing.
 use Rattle.std.proofs.Common.{◌≡◌, ℕ, zero, suc, ◌+◌, ◌-◌, ◌*◌, ◌^◌, ◌<◌, ◌≤◌, true, ◌&&◌, eqb, ltb, List, [], ◌∷◌, ◌++◌, map, length, get_or, take, drop, sym, refl, ap, ◌∙◌, append_assoc, add-zero, zero-add, arith, lit<, length-append, length-drop}
-use Rattle.std.specs.List.{AllByRecursion}
+use Rattle.std.specs.List.{All}
+use Rattle.std.proofs.lemmas.List.Elements.{All-cons, All-from_recursion, All-nil}
 use Rattle.std.proofs.lemmas.List.{drop_all, drop_more}
 use Rattle.std.proofs.lemmas.Bool.{and_parts, eqb-true, ltb-true}
 use Rattle.std.proofs.lemmas.List.Folds.{list_all-append}
@@ -84,8 +85,8 @@ record Listed (bs : List ℕ) (k : ℕ) : Type 0 where
 -- the fields from field k on, with their entries and their bytes
 record Fields (bs : List ℕ) (k : ℕ) : Type 0 where
   pub fields : List Field
-  pub formed : AllByRecursion FormedField fields
-  pub fit : AllByRecursion (λ f. length (field_laid f) ≤ 9999) fields
+  pub formed : All FormedField fields
+  pub fit : All (λ f. length (field_laid f) ≤ 9999) fields
   pub count : k + length (map extent fields) ≡ entry_count bs
   pub listed : drop (entry_place k) bs ≡ directory (sizes_before bs k) (map extent fields) ++ drop (entry_place (entry_count bs)) bs
   pub laid : drop (field_place bs k) bs ≡ fields_laid fields ++ (29 ∷ [])
@@ -116,8 +117,8 @@ module _ (bs : List ℕ) (w : Whole bs) where
       let three : part bs 17 3 ≡ take 3 (drop 5 (codes_of bs)) = part_bytes bs 17 3 (omega arith) in
       (rw (five, three) at leader_parts) ∙ sym (simp append_assoc)
 
-  codes_are : AllByRecursion (λ c. code_character c ≡ true) (codes_of bs)
-  codes_are = (w.position 5 (lit< tt), (w.position 6 (lit< tt), (w.position 7 (lit< tt), (w.position 8 (lit< tt), (w.position 9 (lit< tt), (w.position 17 (lit< tt), (w.position 18 (lit< tt), (w.position 19 (lit< tt), tt))))))))
+  codes_are : All (λ c. code_character c ≡ true) (codes_of bs)
+  codes_are = All-from_recursion (λ c. code_character c ≡ true) (codes_of bs) (w.position 5 (lit< tt), (w.position 6 (lit< tt), (w.position 7 (lit< tt), (w.position 8 (lit< tt), (w.position 9 (lit< tt), (w.position 17 (lit< tt), (w.position 18 (lit< tt), (w.position 19 (lit< tt), tt))))))))
 
   entry_back : (k : ℕ) → k < entry_count bs → Listed bs k
   entry_back k h =
@@ -164,8 +165,8 @@ module _ (bs : List ℕ) (w : Whole bs) where
       let end : field_place bs (entry_count bs) ≡ length bs - 1 = omega arith in
       rw at_end (record {
         fields = [];
-        formed = tt;
-        fit = tt;
+        formed = All-nil FormedField;
+        fit = All-nil (λ f. length (field_laid f) ≤ 9999);
         count = add-zero _;
         listed = refl;
         laid = ap (λ n. drop n bs) end ∙ next_byte bs (length bs - 1) 29 (omega arith) w.last ∙ ap (λ l. 29 ∷ l) (drop_all (length bs - 1 + 1) bs (omega arith));
@@ -179,8 +180,8 @@ module _ (bs : List ℕ) (w : Whole bs) where
       let next : field_place bs k + entry_size bs k ≡ field_place bs (suc k) = omega arith in
       record {
         fields = first.field ∷ rest.fields;
-        formed = (first.formed, rest.formed);
-        fit = (omega arith, rest.fit);
+        formed = All-cons FormedField first.field rest.fields first.formed rest.formed;
+        fit = All-cons (λ f. length (field_laid f) ≤ 9999) first.field rest.fields (omega arith) rest.fit;
         count = omega arith;
         listed = rw (first.tagged, size) (listing.written ∙ ap (λ l. entry (entry_extent bs k) (sizes_before bs k) ++ l) rest.listed ∙ sym (append_assoc (entry (entry_extent bs k) (sizes_before bs k)) _ _));
         laid = next_part bs (field_place bs k) (entry_size bs k) ∙ ap (λ n. field_bytes bs k ++ drop n bs) next ∙ (λ i. sym first.laid i ++ rest.laid i) ∙ sym (append_assoc (field_laid first.field) _ _);

@@ -1,7 +1,7 @@
 -- The bytes of a well-formed field follow the rule for their place. Assumes nothing.
 use Rattle.std.proofs.Common.{◌≡◌, ℕ, zero, suc, ◌+◌, ◌-◌, ◌<◌, Bool, true, false, cond, not, ◌||◌, eqb, ltb, List, [], ◌∷◌, ◌++◌, length, get_or, refl, ap, ◌∙◌, ⊎_elim, append_assoc, arith}
-use Rattle.std.specs.List.{AllByRecursion}
-use Rattle.std.proofs.ByRecursion.{All-append, All-get_or, All-weaker}
+use Rattle.std.specs.List.{All}
+use Rattle.std.proofs.lemmas.List.Elements.{All-append, All-cons, All-get_or, All-head, All-nil, All-tail, All-weaker}
 use Rattle.std.proofs.lemmas.List.{get_or_append_left, get_or_push, length_push}
 use Rattle.std.proofs.lemmas.Bool.{and_from, cases_lt, cond-false, cond-true, eq-eqb, le-ltb, lt-ltb, ne_eqb, not_from_false, or_left, or_right}
 use Rattle.std.proofs.lemmas.Bool.Decides.{nat_tests}
@@ -11,12 +11,13 @@ use Rattle.record.specs.Formed.{FormedField, FormedSubfield, Text}
 use Rattle.record.specs.Layout.{field_laid, subfields_laid}
 use Rattle.record.specs.Parts.{Field, Subfield, tag_of}
 use Rattle.record.specs.Parts.Field.{Control, Data}
+use Rattle.record.proofs.Texts.{text_first, text_more, text_rest}
 
 -- 1E at the end, and nowhere else a byte that is barred
 abbrev closes : (ℕ → Bool) → List ℕ → ℕ → Bool
 closes barred field i = cond (last field i) (eqb (get_or field i 0) 30) (not (barred (get_or field i 0)))
 
-closed : (barred : ℕ → Bool) (xs : List ℕ) → AllByRecursion (λ b. barred b ≡ false) xs → (i : ℕ) → i < length (xs ++ (30 ∷ [])) → closes barred (xs ++ (30 ∷ [])) i ≡ true
+closed : (barred : ℕ → Bool) (xs : List ℕ) → All (λ b. barred b ≡ false) xs → (i : ℕ) → i < length (xs ++ (30 ∷ [])) → closes barred (xs ++ (30 ∷ [])) i ≡ true
 closed barred xs free i h =
     let n = length_push xs 30 in
     ⊎_elim
@@ -52,21 +53,24 @@ code_text : (b : ℕ) → code_character b ≡ true → separator b ≡ false
 code_text b e = grind (arith, nat_tests)
 
 pub subfield_text : (s : Subfield) → FormedSubfield s → Text (s.code ∷ s.body)
-subfield_text s ok = (code_text s.code (or_right _ _ ok.code_is), ok.body_is)
+subfield_text s ok = text_more s.code s.body (code_text s.code (or_right _ _ ok.code_is)) ok.body_is
 
 coded_text : (bs rest : List ℕ) → Text bs → Coded rest → Coded (bs ++ rest)
 coded_text [] rest text ok = ok
-coded_text (b ∷ bs) rest text ok = (or_left _ _ (not_from_false _ (text_31 b text.0)), coded_text bs rest text.1 ok)
+coded_text (b ∷ bs) rest text ok = (or_left _ _ (not_from_false _ (text_31 b (text_first b bs text))), coded_text bs rest (text_rest b bs text) ok)
 
-coded_subfields : (ss : List Subfield) → AllByRecursion FormedSubfield ss → Coded (subfields_laid ss ++ (30 ∷ []))
+coded_subfields : (ss : List Subfield) → All FormedSubfield ss → Coded (subfields_laid ss ++ (30 ∷ []))
 coded_subfields [] ok = (refl, tt)
 coded_subfields (s ∷ ss) ok =
-    rw append_assoc (ok.0.code_is, coded_text (s.code ∷ s.body) (subfields_laid ss ++ (30 ∷ [])) (subfield_text s ok.0) (coded_subfields ss ok.1))
+    let first = All-head FormedSubfield s ss ok in
+    rw append_assoc (first.code_is, coded_text (s.code ∷ s.body) (subfields_laid ss ++ (30 ∷ [])) (subfield_text s first) (coded_subfields ss (All-tail FormedSubfield s ss ok)))
 
-open_subfields : (ss : List Subfield) → AllByRecursion FormedSubfield ss → AllByRecursion (λ b. within 29 30 b ≡ false) (subfields_laid ss)
-open_subfields [] ok = tt
+open_subfields : (ss : List Subfield) → All FormedSubfield ss → All (λ b. within 29 30 b ≡ false) (subfields_laid ss)
+open_subfields [] ok = All-nil (λ b. within 29 30 b ≡ false)
 open_subfields (s ∷ ss) ok =
-    (refl, All-append (λ b. within 29 30 b ≡ false) (s.code ∷ s.body) (subfields_laid ss) (All-weaker (λ b. separator b ≡ false) (λ b. within 29 30 b ≡ false) text_30 (s.code ∷ s.body) (subfield_text s ok.0)) (open_subfields ss ok.1))
+    let inside = λ (b : ℕ). within 29 30 b ≡ false in
+    let first = All-weaker (λ b. separator b ≡ false) inside text_30 (s.code ∷ s.body) (subfield_text s (All-head FormedSubfield s ss ok)) in
+    All-cons inside 31 (s.code ∷ s.body ++ subfields_laid ss) refl (All-append inside (s.code ∷ s.body) (subfields_laid ss) first (open_subfields ss (All-tail FormedSubfield s ss ok)))
 
 -- two indicators, 1F, and a subfield code after each 1F
 abbrev opens : List ℕ → ℕ → Bool
@@ -88,5 +92,8 @@ field_holds (Control tag bs) (low, high, text) i h = cond-true _ _ _ (lt-ltb tag
 field_holds (Data tag a b []) (low, high, first, second, some, ok) i h = absurd (omega arith)
 field_holds (Data tag a b (s ∷ ss)) (low, high, first, second, some, ok) i h =
     let rest = s.code ∷ ((s.body ++ subfields_laid ss) ++ (30 ∷ [])) in
+    let inside = λ (c : ℕ). within 29 30 c ≡ false in
+    let laid = subfields_laid (s ∷ ss) in
+    let free = All-cons inside a (b ∷ laid) (text_30 a (code_text a first)) (All-cons inside b laid (text_30 b (code_text b second)) (open_subfields (s ∷ ss) ok)) in
     cond-false _ _ _ (le-ltb tag 10 low)
-    ∙ and_from _ _ (opened a b rest first second (coded_subfields (s ∷ ss) ok) i) (closed (within 29 30) (a ∷ b ∷ subfields_laid (s ∷ ss)) (text_30 a (code_text a first), (text_30 b (code_text b second), open_subfields (s ∷ ss) ok)) i h)
+    ∙ and_from _ _ (opened a b rest first second (coded_subfields (s ∷ ss) ok) i) (closed (within 29 30) (a ∷ b ∷ laid) free i h)

@@ -1,7 +1,7 @@
 -- What stands where in a record that was laid out. Assumes nothing.
 use Rattle.std.proofs.Common.{◌≡◌, ℕ, zero, suc, ◌+◌, ◌-◌, ◌*◌, ◌/◌, ◌<◌, ◌≤◌, true, ◌&&◌, eqb, ltb, leb, List, [], ◌∷◌, ◌++◌, length, get_or, take, drop, sym, refl, ap, ◌∙◌, append_assoc, le_refl, add-zero, zero-add, add-one, arith, length-append, length-drop}
-use Rattle.std.specs.List.{AllByRecursion}
-use Rattle.std.proofs.ByRecursion.{All-get_or}
+use Rattle.std.specs.List.{All}
+use Rattle.std.proofs.lemmas.List.Elements.{All-get_or}
 use Rattle.std.proofs.lemmas.List.{at_drop_more, drop_all, drop-append-le, drop_at, drop-drop, get_or-drop, length_push, take-append-le, take_at}
 use Rattle.std.proofs.lemmas.Bool.Decides.{nat_tests}
 use Rattle.std.proofs.lemmas.List.Folds.{list_all-append}
@@ -152,8 +152,8 @@ module _ (codes : List ℕ) (es : List Extent) (fs : List ℕ) (eight : length c
 -- codes and extents that make a record
 pub record Right (codes : List ℕ) (es : List Extent) (fs : List ℕ) : Type 0 where
   pub eight : length codes ≡ 8
-  pub codes_are : AllByRecursion (λ c. code_character c ≡ true) codes
-  pub fit : AllByRecursion Fits es
+  pub codes_are : All (λ c. code_character c ≡ true) codes
+  pub fit : All Fits es
   pub sum : total es ≡ length fs
   pub short : laid_length es fs ≤ 99999
 

@@ -11,6 +11,7 @@ pub mod Stages
 pub mod Ordered
 pub mod Listed
 pub mod Places
+pub mod Texts
 pub mod Opened
 pub mod Forth
 pub mod Extents

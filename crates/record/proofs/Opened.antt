@@ -1,6 +1,7 @@
 -- Bytes that follow the rules of a field are a well-formed field, laid out. Assumes nothing.
 use Rattle.std.proofs.Common.{◌≡◌, ℕ, suc, ◌+◌, ◌-◌, ◌<◌, ◌≤◌, Bool, true, false, cond, not, ◌&&◌, eqb, ltb, List, [], ◌∷◌, ◌++◌, length, get_or, sym, refl, ap, ◌∙◌, append_assoc, arith}
-use Rattle.std.specs.List.{AllByRecursion}
+use Rattle.std.specs.List.{All}
+use Rattle.std.proofs.lemmas.List.Elements.{All-cons, All-nil}
 use Rattle.std.proofs.lemmas.Bool.{and_parts, both_ways, cond-true, cond-false, eq-eqb, eqb-true, le-ltb, ltb-true, ltb-false, ne_eqb, not-true}
 use Rattle.std.proofs.lemmas.Bool.Decides.{nat_tests}
 use Rattle.record.specs.Classes.{code_character, separator, subfield_code, within}
@@ -9,6 +10,7 @@ use Rattle.record.specs.Formed.{FormedField, FormedSubfield, Text}
 use Rattle.record.specs.Layout.{field_laid, subfields_laid}
 use Rattle.record.specs.Parts.{Field, Subfield, tag_of}
 use Rattle.record.specs.Parts.Field.{Control, Data}
+use Rattle.record.proofs.Texts.{text_first, text_more, text_none, text_rest}
 
 -- these bytes are a field with this tag, laid out
 pub record Opened (tag : ℕ) (bytes : List ℕ) : Type 0 where
@@ -34,10 +36,10 @@ control_text :
     (b : ℕ) (bs : List ℕ) → Ends (b ∷ bs)
     → ((q : ℕ) → suc q < length (b ∷ bs) → separator (get_or (b ∷ bs) q 0) ≡ false)
     → (t : List ℕ) × Text t × (t ++ (30 ∷ []) ≡ b ∷ bs)
-control_text b [] ends plain = ([], tt, ap (λ x. x ∷ []) (sym (ends 0 refl)))
+control_text b [] ends plain = ([], text_none, ap (λ x. x ∷ []) (sym (ends 0 refl)))
 control_text b (c ∷ bs) ends plain =
     let rest = control_text c bs (λ q h. ends (suc q) (omega arith)) (λ q h. plain (suc q) (omega arith)) in
-    (b ∷ rest.0, (plain 0 (omega arith), rest.1), ap (λ l. b ∷ l) rest.2)
+    (b ∷ rest.0, text_more b rest.0 (plain 0 (omega arith)) rest.1, ap (λ l. b ∷ l) rest.2)
 
 control_field : (tag : ℕ) (bs : List ℕ) → 1 ≤ tag → tag ≤ 9 → 0 < length bs → ((i : ℕ) → i < length bs → control_rule bs i ≡ true) → Opened tag bs
 control_field tag [] some small full rules = absurd (omega arith)
@@ -47,21 +49,21 @@ control_field tag (b ∷ bs) some small full rules =
 
 -- bytes cut at each 1F: what stands before the first, the subfields, and 1E
 data Cut : List ℕ → Type 0 where
-  pieces : (body : List ℕ) (ss : List Subfield) → Text body → AllByRecursion FormedSubfield ss → Cut (body ++ (subfields_laid ss ++ (30 ∷ [])))
+  pieces : (body : List ℕ) (ss : List Subfield) → Text body → All FormedSubfield ss → Cut (body ++ (subfields_laid ss ++ (30 ∷ [])))
 
 -- a 1F before a subfield code begins a subfield
 begin : (bs : List ℕ) → Cut bs → subfield_code (get_or bs 0 0) ≡ true → Cut (31 ∷ bs)
 begin _ (pieces [] [] text are) code = absurd (both_ways _ refl code)
 begin _ (pieces [] (s ∷ ss) text are) code = absurd (both_ways _ refl code)
 begin _ (pieces (c ∷ body) ss text are) code =
-    rw (← append_assoc body (subfields_laid ss) (30 ∷ [])) (pieces [] (record { code = c; body = body } ∷ ss) tt (record { code_is = code; body_is = text.1 }, are))
+    rw (← append_assoc body (subfields_laid ss) (30 ∷ [])) (pieces [] (record { code = c; body = body } ∷ ss) text_none (All-cons FormedSubfield _ ss (record { code_is = code; body_is = text_rest c body text }) are))
 
 no_mark : (b : ℕ) → not (within 29 30 b) ≡ true → eqb b 31 ≡ false → separator b ≡ false
 no_mark b plain other = grind (arith, nat_tests)
 
 one_more : (b : ℕ) (bs : List ℕ) → not (within 29 30 b) ≡ true → (b ≡ 31 → subfield_code (get_or bs 0 0) ≡ true) → (t : Bool) → eqb b 31 ≡ t → Cut bs → Cut (b ∷ bs)
 one_more b bs plain code true e c = let is = eqb-true b 31 e in rw is (begin bs c (code is))
-one_more b bs plain code false e (pieces body ss text are) = pieces (b ∷ body) ss (no_mark b plain e, text) are
+one_more b bs plain code false e (pieces body ss text are) = pieces (b ∷ body) ss (text_more b body (no_mark b plain e) text) are
 
 -- no byte but the last is 1D or 1E
 abbrev Open : List ℕ → Type 0
@@ -72,16 +74,16 @@ abbrev CodesFollow : List ℕ → Type 0
 CodesFollow bs = (q : ℕ) → suc q < length bs → get_or bs q 0 ≡ 31 → subfield_code (get_or bs (suc q) 0) ≡ true
 
 cut : (b : ℕ) (bs : List ℕ) → Ends (b ∷ bs) → Open (b ∷ bs) → CodesFollow (b ∷ bs) → Cut (b ∷ bs)
-cut b [] ends plain codes = rw (ends 0 refl) (pieces [] [] tt tt)
+cut b [] ends plain codes = rw (ends 0 refl) (pieces [] [] text_none (All-nil FormedSubfield))
 cut b (c ∷ bs) ends plain codes =
     one_more b (c ∷ bs) (plain 0 (omega arith)) (codes 0 (omega arith)) (eqb b 31) refl
     (cut c bs (λ q h. ends (suc q) (omega arith)) (λ q h. plain (suc q) (omega arith)) (λ q h. codes (suc q) (omega arith)))
 
 -- bytes that begin with a 1F are subfields and 1E
-subfields : (bs : List ℕ) → Cut bs → get_or bs 0 0 ≡ 31 → (ss : List Subfield) × (1 ≤ length ss) × AllByRecursion FormedSubfield ss × (subfields_laid ss ++ (30 ∷ []) ≡ bs)
+subfields : (bs : List ℕ) → Cut bs → get_or bs 0 0 ≡ 31 → (ss : List Subfield) × (1 ≤ length ss) × All FormedSubfield ss × (subfields_laid ss ++ (30 ∷ []) ≡ bs)
 subfields _ (pieces [] [] text are) mark = absurd (omega arith)
 subfields _ (pieces [] (s ∷ ss) text are) mark = (s ∷ ss, omega arith, are, refl)
-subfields _ (pieces (c ∷ body) ss text are) mark = absurd (both_ways _ (rw mark at text.0) refl)
+subfields _ (pieces (c ∷ body) ss text are) mark = absurd (both_ways _ (rw mark at (text_first c body text)) refl)
 
 -- a data field: two indicators, neither of which is the last byte, subfields and 1E
 indicator_last : (b : ℕ) → (code_character b && eqb b 30) ≡ true → ⊥

@@ -1,6 +1,7 @@
 -- What is laid out from a well-formed field is read as that field, with its subfields where they stand. Assumes nothing.
 use Rattle.std.proofs.Common.{◌≡◌, ℕ, ◌+◌, ◌-◌, List, [], ◌∷◌, ◌++◌, map, length, get_or, take, drop, sym, refl, ap, ◌∙◌, append_assoc, arith}
-use Rattle.std.specs.List.{AllByRecursion}
+use Rattle.std.specs.List.{All}
+use Rattle.std.proofs.lemmas.List.Elements.{All-cons, All-head, All-nil, All-tail}
 use Rattle.std.proofs.lemmas.List.{drop_at, drop-drop, length_push, take_at}
 use Rattle.std.proofs.lemmas.Bool.{cond-false, cond-true, le-ltb, lt-ltb}
 use Rattle.record.specs.Figures.{part}
@@ -11,6 +12,7 @@ use Rattle.record.specs.Parts.Field.{Control, Data}
 use Rattle.record.specs.Reading.{Held, PlacedSubfield, held, piece, subfields_in, without_places}
 use Rattle.record.specs.Reading.Held.{bytes, coded}
 use Rattle.record.specs.Trips.{SubfieldStands, SubfieldsStand}
+use Rattle.record.proofs.Texts.{text_first, text_rest}
 use Rattle.record.proofs.Clamped.{next_part}
 use Rattle.record.proofs.Grammar.{subfield_text, text_31}
 use Rattle.record.proofs.Pieces.{to_next}
@@ -28,20 +30,20 @@ subfields_placed p (s ∷ ss) = ap (λ l. s ∷ l) (subfields_placed (p + (2 + l
 piece_text : (bs : List ℕ) (ss : List Subfield) → Text bs → piece (bs ++ subfields_laid ss) ≡ bs
 piece_text [] [] text = refl
 piece_text [] (s ∷ ss) text = refl
-piece_text (b ∷ bs) ss text = cond-false _ _ _ (text_31 b text.0) ∙ ap (λ l. b ∷ l) (piece_text bs ss text.1)
+piece_text (b ∷ bs) ss text = cond-false _ _ _ (text_31 b (text_first b bs text)) ∙ ap (λ l. b ∷ l) (piece_text bs ss (text_rest b bs text))
 
-subfields_back : (p : ℕ) (ss : List Subfield) → AllByRecursion FormedSubfield ss → subfields_in p (subfields_laid ss) ≡ placed p ss
+subfields_back : (p : ℕ) (ss : List Subfield) → All FormedSubfield ss → subfields_in p (subfields_laid ss) ≡ placed p ss
 subfields_back p [] ok = refl
 subfields_back p (s ∷ ss) ok =
     let text = s.code ∷ s.body in
     let rest = subfields_laid ss in
-    let cut : piece (text ++ rest) ≡ text = piece_text text ss (subfield_text s ok.0) in
+    let cut : piece (text ++ rest) ≡ text = piece_text text ss (subfield_text s (All-head FormedSubfield s ss ok)) in
     let next : p + 1 + length text ≡ p + (2 + length s.body) = omega arith in
     let after : subfields_in (p + 1) (text ++ rest) ≡ placed (p + (2 + length s.body)) ss =
     to_next (p + 1) (text ++ rest)
     ∙ ap (λ l. subfields_in (p + 1 + length l) (drop (length l) (text ++ rest))) cut
     ∙ (λ i. subfields_in (next i) (drop_at text rest (length text) refl i))
-    ∙ subfields_back (p + (2 + length s.body)) ss ok.1 in
+    ∙ subfields_back (p + (2 + length s.body)) ss (All-tail FormedSubfield s ss ok) in
     λ i. record { place = p; subfield = record { code = get_or (cut i) 0 0; body = drop 1 (cut i) } } ∷ after i
 
 -- what a field that begins at p holds
@@ -68,8 +70,8 @@ reopened f ok p = ap (without_places (tag_of f)) (held_back f ok p) ∙ without_
 
 -- the subfields of a field that stands at p stand where they are placed
 module _ (bs : List ℕ) where
-  placed_stand : (p : ℕ) (ss : List Subfield) (rest : List ℕ) → drop p bs ≡ subfields_laid ss ++ rest → AllByRecursion (SubfieldStands bs) (placed p ss)
-  placed_stand p [] rest at = tt
+  placed_stand : (p : ℕ) (ss : List Subfield) (rest : List ℕ) → drop p bs ≡ subfields_laid ss ++ rest → All (SubfieldStands bs) (placed p ss)
+  placed_stand p [] rest at = All-nil (SubfieldStands bs)
   placed_stand p (s ∷ ss) rest at =
       let whole = 31 ∷ s.code ∷ s.body in
       let n = 2 + length s.body in
@@ -77,7 +79,7 @@ module _ (bs : List ℕ) where
       let here : drop p bs ≡ whole ++ (subfields_laid ss ++ rest) = at ∙ append_assoc whole (subfields_laid ss) rest in
       let first = ap (take n) here ∙ take_at whole (subfields_laid ss ++ rest) n long in
       let next = sym (drop-drop n p bs) ∙ ap (drop n) here ∙ drop_at whole (subfields_laid ss ++ rest) n long in
-      (first, placed_stand (p + n) ss rest next)
+      All-cons (SubfieldStands bs) (record { place = p; subfield = s }) (placed (p + n) ss) first (placed_stand (p + n) ss rest next)
 
   pub holding_stands : (f : Field) (p n : ℕ) → part bs p n ≡ field_laid f → SubfieldsStand bs (holding p f)
   holding_stands (Control tag text) p n at = tt

@@ -1,9 +1,9 @@
 -- Codes, extents and bytes that were laid out are read back as they were. Assumes nothing.
 use Rattle.std.proofs.Common.{◌≡◌, ℕ, zero, suc, ◌+◌, ◌-◌, ◌*◌, ◌<◌, List, [], ◌∷◌, ◌++◌, map, length, get_or, take, drop, sym, refl, ap, ◌∙◌, subst, append_assoc, le_refl, add-zero, zero-add, add-one, arith, length-append, length-drop, take-append-drop}
 use mathlib.Core.List.{map-map}
-use Rattle.std.specs.List.{range_with_len, AllByRecursion}
+use Rattle.std.specs.List.{range_with_len, All}
 use Rattle.std.proofs.lemmas.List.FromFn.{fill_by_all, get_or-range_with_len, length-range_with_len}
-use Rattle.std.proofs.ByRecursion.{All-from_get_or, All-map}
+use Rattle.std.proofs.lemmas.List.Elements.{All-from_get_or, All-map}
 use Rattle.std.proofs.lemmas.List.{length-take-le, take_all, take_at}
 use Rattle.record.specs.declared.extent.Extent.{Extent}
 use Rattle.record.specs.Directory.{entry_place, entry_size}
@@ -32,10 +32,10 @@ each_field g bs ys d count same =
     ∙ sym (fill_by_all (λ k. g (field_read bs k)) ys (length ys) d refl (λ k h. sym (same k h)))
 
 -- what holds of each field
-pub all_fields : (P : PlacedField → Type 0) (bs : List ℕ) → ((k : ℕ) → k < entry_count bs → P (field_read bs k)) → AllByRecursion P (fields_of bs)
+pub all_fields : (P : PlacedField → Type 0) (bs : List ℕ) → ((k : ℕ) → k < entry_count bs → P (field_read bs k)) → All P (fields_of bs)
 all_fields P bs each =
     let n = entry_count bs in
-    subst (AllByRecursion P) (sym (fields_counted bs 0 n))
+    subst (All P) (sym (fields_counted bs 0 n))
     (All-map P (field_read bs) (range_with_len 0 n)
     (All-from_get_or (λ k. P (field_read bs k)) (range_with_len 0 n) 0
     (λ i h. let below : i < n = omega (arith, length-range_with_len 0 n) in rw (get_or-range_with_len 0 n i 0 below, zero-add) (each i below))))

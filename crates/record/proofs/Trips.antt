@@ -1,8 +1,8 @@
 -- Reading and writing undo one another, and each element stands where its place says. Assumes nothing.
 use Rattle.std.proofs.Common.{◌≡◌, ℕ, ◌<◌, List, [], map, length, sym, ap, ◌∙◌, subst, arith}
 use lib.ListN.{length-map}
-use Rattle.std.specs.List.{AllByRecursion}
-use Rattle.std.proofs.ByRecursion.{All-get_or}
+use Rattle.std.specs.List.{All}
+use Rattle.std.proofs.lemmas.List.Elements.{All-get_or}
 use Rattle.std.proofs.lemmas.List.{get_or-map}
 use Rattle.record.specs.declared.extent.Extent.{Extent}
 use Rattle.record.specs.declared.reading.Record.{Record}
@@ -78,7 +78,7 @@ module _ (r : Parts) (ok : Formed r) where
   pub parts_back : parts_of (layout r) ≡ r
   parts_back i = record { codes = codes_back r.codes es fs laid_right i; fields = fields_back i }
 
-  all_stand : AllByRecursion (Stands (layout r)) (fields_of (layout r))
+  all_stand : All (Stands (layout r)) (fields_of (layout r))
   all_stand = all_fields (Stands (layout r)) (layout r) (λ k h. stands_laid k (omega (arith, count_back)))
 
   laid_again : laid (codes_of (layout r)) (extents_of (layout r)) (contents_of (layout r)) ≡ layout r
@@ -97,8 +97,8 @@ read_back codes es fs ok framed = record {
   parts_are = λ p formed of. ap parts_of (laid_parts p codes es fs of) ∙ parts_back p formed;
 }
 
-pub stands : (bs : List ℕ) → Framed bs → AllByRecursion (Stands bs) (fields_of bs)
-stands bs framed = let l = framed_laid bs framed in subst (λ b. AllByRecursion (Stands b) (fields_of b)) (sym l.end_to_end) (all_stand l.parts l.formed)
+pub stands : (bs : List ℕ) → Framed bs → All (Stands bs) (fields_of bs)
+stands bs framed = let l = framed_laid bs framed in subst (λ b. All (Stands b) (fields_of b)) (sym l.end_to_end) (all_stand l.parts l.formed)
 
 pub reads : (bs : List ℕ) (x : Record) → Framed bs → x.bytes.now ≡ bs → x.frame ≡ frame_of bs → Reads bs x
 reads bs x framed bytes_are frame_is =

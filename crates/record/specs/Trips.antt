@@ -1,6 +1,6 @@
 -- Reading and writing undo one another, and each element stands where its place says. Assumes nothing.
 use Rattle.std.specs.Prelude.{◌≡◌, ℕ, ◌+◌, ◌-◌, List, ◌∷◌, map, length}
-use Rattle.std.specs.List.{AllByRecursion}
+use Rattle.std.specs.List.{All}
 use Rattle.record.specs.declared.extent.Extent.{Extent}
 use Rattle.record.specs.declared.reading.Record.{Record}
 use Rattle.record.specs.Cursors.{bytes_in, fields_in}
@@ -19,7 +19,7 @@ SubfieldStands bs s = part bs s.place (2 + length s.subfield.body) ≡ 31 ∷ s.
 
 abbrev pub SubfieldsStand : List ℕ → Held → Type 0
 SubfieldsStand bs (bytes _) = Unit {0}
-SubfieldsStand bs (coded i j ss) = AllByRecursion (SubfieldStands bs) ss
+SubfieldsStand bs (coded i j ss) = All (SubfieldStands bs) ss
 
 -- entry, field and subfields stand at their places
 pub record Stands (bs : List ℕ) (f : PlacedField) : Type 0 where
@@ -38,7 +38,7 @@ pub record Reads (bs : List ℕ) (r : Record) : Type 0 where
   pub only : (p : Parts) → Formed p → layout p ≡ bs → p ≡ parts_of bs
   -- what `write` is given to write it back
   pub written_back : laid (codes_of bs) (extents_of bs) (contents_of bs) ≡ bs
-  pub stand : AllByRecursion (Stands bs) (fields_of bs)
+  pub stand : All (Stands bs) (fields_of bs)
 
 -- codes, extents and bytes that are those of parts
 pub record OfParts (p : Parts) (codes : List ℕ) (es : List Extent) (fs : List ℕ) : Type 0 where
