@@ -1,7 +1,6 @@
 -- The words for what stops a walk or a copy. Assumes nothing.
 use Rattle.std.specs.Prelude.{ℕ, List, ◌++◌, codes, decimal}
-use Rattle.record.specs.Words.{words_of}
-use Rattle.record.specs.declared.writing.WriteFault.TheVariants.{Frame, ShortBuffer}
+use Rattle.record.specs.Writing.{write_words}
 use Rattle.exports.specs.declared.copy.Uncopied.{Uncopied}
 use Rattle.exports.specs.declared.copy.Uncopied.TheVariants.{Refused, NoMemory}
 use Rattle.exports.specs.declared.walk.Stop.{Stop}
@@ -16,6 +15,5 @@ abbrev pub stop_text : Stop → List ℕ
 stop_text stop = codes "at byte " ++ decimal stop.place ++ codes ": " ++ unread_text stop.why
 
 abbrev pub uncopied_text : Uncopied → List ℕ
-uncopied_text (Refused (Frame fault)) = words_of fault
-uncopied_text (Refused ShortBuffer) = codes "no room for a record"
+uncopied_text (Refused fault) = write_words fault
 uncopied_text NoMemory = codes "no memory for the fields of a record"

@@ -30,9 +30,8 @@ impl fmt::Display for Uncopied {
 
     fn fmt<W: fmt::Write>(&self, f: &mut fmt::Formatter<W>) -> fmt::Result {
         match self {
-            Uncopied::Refused(WriteFault::Frame(fault)) => write!(f, "{fault}"),
-            Uncopied::Refused(WriteFault::ShortBuffer) => write!(f, "no room for a record"),
-            Uncopied::NoMemory => write!(f, "no memory for the fields of a record"),
+            Uncopied::Refused(fault) => write!(f, "{fault}"),
+            Uncopied::NoMemory => f.write_str("no memory for the fields of a record"),
         }
     }
 }

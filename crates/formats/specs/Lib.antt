@@ -1,3 +1,4 @@
+pub mod Indicators
 pub mod Faults
 pub mod Accepts
 pub mod Values

@@ -8,6 +8,7 @@ ghost use Rattle.formats.specs.Faults.{indicator_fault, indicator_faults, leader
 use crate::checking::RecordCheck;
 use crate::faults::FormatFault;
 use crate::format::Format;
+use crate::indicator::WhichIndicator;
 use record::fields::{Content, Field};
 use record::leader::positions;
 
@@ -45,16 +46,16 @@ impl<'a, F: Format> RecordCheck<'a, F> {
         &self,
         place: usize,
         tag: u16,
-        indicator: u8,
+        which: WhichIndicator,
         code: u8,
     ) -> Result<(), FormatFault>
-        ensures { result ≡ verdict (indicator_fault (F.Format.meaning self.now.format.now) tag place indicator code) tt }
+        ensures { result ≡ verdict (indicator_fault (F.Format.meaning self.now.format.now) tag place which code) tt }
     {
-        if !self.format.admits_indicator(tag, indicator, code) {
+        if !self.format.admits_indicator(tag, u8::from(which), code) {
             return Err(FormatFault::Indicator {
                 place,
                 tag,
-                indicator,
+                which,
                 code,
             });
         }
@@ -69,8 +70,8 @@ impl<'a, F: Format> RecordCheck<'a, F> {
         match field.content {
             Content::Control(_) => Ok(()),
             Content::Data { first, second, .. } => {
-                self.check_indicator(field.place, field.tag, 1, first)?;
-                self.check_indicator(field.place + 1, field.tag, 2, second)
+                self.check_indicator(field.place, field.tag, WhichIndicator::First, first)?;
+                self.check_indicator(field.place + 1, field.tag, WhichIndicator::Second, second)
             }
         }
     }

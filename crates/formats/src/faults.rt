@@ -4,6 +4,7 @@ ghost use Rattle.formats.specs.Values.{values_of};
 ghost use Rattle.formats.specs.Words.{words_of};
 ghost use Rattle.formats.specs.declared.faults.FormatFault.TheVariants.{Frame as Framed};
 
+use crate::indicator::WhichIndicator;
 use record::faults::{FrameFault, Layer, Refusal, Values};
 use std::error::Error;
 use std::fmt;
@@ -27,7 +28,7 @@ pub enum FormatFault {
     Indicator {
         place: usize,
         tag: u16,
-        indicator: u8,
+        which: WhichIndicator,
         code: u8,
     },
     // 26: a subfield code that the tag lacks
@@ -76,11 +77,11 @@ impl Refusal for FormatFault {
             Self::Indicator {
                 place,
                 tag,
-                indicator,
+                which,
                 code,
             } => Values {
                 tag,
-                indicator,
+                indicator: u8::from(which),
                 code,
                 ..Values::at(Layer::Format, 25, place)
             },

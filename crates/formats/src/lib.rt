@@ -9,6 +9,7 @@ pub mod shipped;
 // What is wrong with a record in a format, number by number.
 mod admitting;
 pub mod faults;
+pub mod indicator;
 mod marks;
 mod repeating;
 
