@@ -17,7 +17,7 @@ pub mod Forth
 pub mod Extents
 pub mod Leaders
 pub mod Laid
-pub mod Paired
+pub mod Pairs
 pub mod Faultless
 pub mod Judged
 pub mod Grammar

@@ -1,5 +1,4 @@
 pub mod Searches
-pub mod Pairs
 pub mod Steps
 pub mod Laws
 pub mod Passing

@@ -4,7 +4,7 @@ use Rattle.std.proofs.lemmas.Iterator.{YieldsList-from_slice, YieldsList-from_zi
 use Rattle.record.specs.Leader.{code_positions}
 use Rattle.rows.specs.declared.faults.RowFault.TheVariants.{Leader}
 use Rattle.rows.specs.Sets.{some_characters}
-use Rattle.rows.proofs.Pairs.{FoundBeside, first_beside, none_beside}
+use Rattle.record.proofs.Pairs.{FoundBeside, first_beside, none_beside}
 use Rattle.rows.proofs.checking.check_leader.Goals as goal
 use Rattle.rows.proofs.checking.check_leader.Goals.{After-find}
 

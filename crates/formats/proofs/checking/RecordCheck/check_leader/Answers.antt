@@ -4,7 +4,7 @@ use Rattle.std.proofs.lemmas.Iterator.{YieldsList-from_slice, YieldsList-from_zi
 use Rattle.std.proofs.lemmas.List.{map-id}
 use Rattle.record.specs.Leader.{code_positions}
 use Rattle.record.specs.Rules.{verdict}
-use Rattle.rows.proofs.Pairs.{FoundBeside, first_beside, none_beside}
+use Rattle.record.proofs.Pairs.{FoundBeside, first_beside, none_beside}
 use Rattle.formats.specs.declared.faults.FormatFault.TheVariants.{LeaderCode}
 use Rattle.formats.specs.Faults.{leader_faults}
 use Rattle.formats.proofs.checking.RecordCheck.check_leader.Given.{Over}
