@@ -111,7 +111,8 @@ fn field_at<'a>(bytes: &'a [u8], k: u16) -> Field<'a>
 
 // What a field of this size holds that begins at this place.
 fn open<'a>(tag: u16, bytes: &'a [u8], place: usize, size: usize) -> Content<'a>
-    requires { (place < 2 ^ 32) × (size < 2 ^ 32) }
+    requires begins { place < 2 ^ 32 }
+    requires short { size < 2 ^ 32 }
     ensures { seen_content result ≡ held tag place (part bytes.now place size) }
 {
     let field = part_of(bytes, place, size);
