@@ -22,9 +22,8 @@ impl fmt::Display for Unread {
 
     fn fmt<W: fmt::Write>(&self, f: &mut fmt::Formatter<W>) -> fmt::Result {
         match *self {
-            Unread::NoLength => write!(
-                f,
-                "no length of a record in five digits; the rest of the file is not read"
+            Unread::NoLength => f.write_str(
+                "no length of a record in five digits; the rest of the file is not read",
             ),
             Unread::Torn { told } => {
                 write!(f, "the file ends before the {told} bytes of the record do")

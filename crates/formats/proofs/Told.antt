@@ -13,6 +13,7 @@ use Rattle.record.specs.Parts.Field.{Control, Data}
 use Rattle.record.specs.Reading.{PlacedField, bare, fields_of}
 use Rattle.record.specs.Rules.{Verdict, verdict}
 use Rattle.record.specs.Trips.{Reads, Stands}
+use Rattle.record.proofs.Verdicts.{refused}
 use Rattle.rows.specs.Table.{Table}
 use Rattle.formats.specs.declared.faults.FormatFault.{FormatFault}
 use Rattle.formats.specs.declared.faults.FormatFault.TheVariants.{Frame}
@@ -23,11 +24,6 @@ module _ {X : Type 0} (P : X → Type 0) where
   framed_first : (fs : List FrameFault) (rest : List FormatFault) (f : FrameFault) → Verdict fs P (Err f) → Verdict (map Frame fs ++ rest) P (Err (Frame f))
   framed_first [] rest f h = absurd h
   framed_first (g ∷ fs) rest f h = ap Frame h
-
-  -- so is the fault that a check tells, where it is known by an equation
-  first_fault : {Y : Type 0} (fs : List FormatFault) (y : Y) (f : FormatFault) → Err f ≡ verdict fs y → Verdict fs P (Err f)
-  first_fault [] y f e = let z : ◌≡◌ {A = ℕ} 0 1 = cc in absurd (omega arith)
-  first_fault (g ∷ fs) y f e = cc
 
 module _ (M : Table) (bs : List ℕ) where
   -- where the frame holds, the faults of codes and fields are left
@@ -41,7 +37,7 @@ module _ (M : Table) (bs : List ℕ) where
     refused_frame f h = framed_first P (frame_faults bs) (parts_faults M (codes_of bs) (fields_of bs)) f h
 
     pub refused_parts : {Y : Type 0} (y : Y) (f : FormatFault) → Framed bs → Err f ≡ verdict (parts_faults M (codes_of bs) (fields_of bs)) y → Verdict (format_faults M bs) P (Err f)
-    refused_parts y f framed e = first_fault P (format_faults M bs) y f (e ∙ ap (λ l. verdict l y) (sym (left framed)))
+    refused_parts y f framed e = refused P (format_faults M bs) y f (e ∙ ap (λ l. verdict l y) (sym (left framed)))
 
     pub accepted : Framed bs → parts_faults M (codes_of bs) (fields_of bs) ≡ [] → (x : X) → P x → Verdict (format_faults M bs) P (Ok x)
     accepted framed none x h = subst (λ l. Verdict l P (Ok x)) (sym (left framed ∙ none)) h

@@ -12,7 +12,7 @@ use Rattle.formats.specs.declared.faults.FormatFault.{FormatFault}
 use Rattle.formats.specs.declared.faults.FormatFault.TheVariants as fault
 use Rattle.formats.specs.declared.indicator.WhichIndicator.{WhichIndicator}
 use Rattle.formats.specs.declared.indicator.WhichIndicator.TheVariants.{First, Second}
-use Rattle.formats.specs.Indicators.{indicator_number}
+use Rattle.formats.specs.Indicators.{number_of_indicator}
 
 -- 23: code i of the eight leader codes, at its position
 abbrev pub code_fault : Table → List ℕ → ℕ → List FormatFault
@@ -27,7 +27,7 @@ tag_fault M f = rule (present (M.occurs f.tag)) (fault.Tag f.entry f.tag)
 
 -- 25: an indicator, at its byte
 abbrev pub indicator_fault : Table → ℕ → ℕ → WhichIndicator → ℕ → List FormatFault
-indicator_fault M tag place which code = rule (M.indicator tag (indicator_number which) code) (fault.Indicator place tag which code)
+indicator_fault M tag place which code = rule (M.indicator tag (number_of_indicator which) code) (fault.Indicator place tag which code)
 
 -- the two of a field that begins at this place
 abbrev pub indicators_held : Table → ℕ → ℕ → Held → List FormatFault

@@ -3,6 +3,6 @@ use Rattle.std.specs.Prelude.{ℕ}
 use Rattle.formats.specs.declared.indicator.WhichIndicator.{WhichIndicator}
 use Rattle.formats.specs.declared.indicator.WhichIndicator.TheVariants.{First, Second}
 
-abbrev pub indicator_number : WhichIndicator → ℕ
-indicator_number First = 1
-indicator_number Second = 2
+abbrev pub number_of_indicator : WhichIndicator → ℕ
+number_of_indicator First = 1
+number_of_indicator Second = 2

@@ -38,6 +38,7 @@ pub trait RowFormat {
     // Its rows, as they are seen.
     ghost rows: { Self → PlainRows };
 
+    // They pass the row check.
     ghost passes: { (f : Self) → sound (rows f) ≡ true };
 
     // Its rows.

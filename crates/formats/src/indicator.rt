@@ -1,5 +1,6 @@
 // The two indicators of a data field.
 ghost use Rattle.std.specs.Prelude.{◌≡◌};
+ghost use Rattle.formats.specs.Indicators.{number_of_indicator};
 
 // Which of them.
 #[derive(Clone, Copy, Debug, PartialEq, Eq)]
@@ -9,13 +10,11 @@ pub enum WhichIndicator {
 }
 
 impl From<WhichIndicator> for u8 {
-    ghost use Rattle.formats.specs.Indicators.{indicator_number};
-
-    ghost from_gives = { λ which n. n ≡ indicator_number which };
+    ghost from_gives = { λ which n. n ≡ number_of_indicator which };
 
     // 1 or 2.
     fn from(which: WhichIndicator) -> u8
-        ensures { result ≡ indicator_number which }
+        ensures { result ≡ number_of_indicator which }
     {
         match which {
             WhichIndicator::First => 1,

@@ -1,7 +1,7 @@
 // A library's own format, over the rows that it holds.
 ghost use Rattle.std.specs.Prelude.{◌≡◌, true};
 ghost use Rattle.record.specs.Rules.{verdict};
-ghost use Rattle.rows.specs.Faults.{bare as bare_rows, opened, rows_faults, sound as passes};
+ghost use Rattle.rows.specs.Faults.{bare as bare_rows, opened, rows_faults, sound};
 ghost use Rattle.rows.specs.Rows.{seen_rows};
 
 use crate::format::RowFormat;
@@ -13,7 +13,7 @@ use rows::rows::FormatRows;
 pub struct LocalFormat<'a> {
     rows: FormatRows<'a>,
     checked: Result<(), RowFault>,
-    ghost sound: { passes (seen_rows rows) ≡ true },
+    ghost passes: { sound (seen_rows rows) ≡ true },
 }
 
 // The rows of the bare format.
@@ -53,7 +53,7 @@ impl<'a> LocalFormat<'a> {
 impl<'a> RowFormat for LocalFormat<'a> {
     ghost rows = { λ f. seen_rows f.rows };
 
-    ghost passes = { λ f. f.sound };
+    ghost passes = { λ f. f.passes };
 
     fn format_rows(&self) -> FormatRows<'_> {
         self.rows

@@ -17,6 +17,7 @@ use std::process::ExitCode;
 use std::str::FromStr;
 use std::{env, fmt, io};
 
+// What the program is asked to do with the files.
 #[derive(Clone, Copy)]
 enum Command {
     Check,
@@ -30,10 +31,7 @@ struct Usage;
 
 impl fmt::Display for Usage {
     fn fmt<W: fmt::Write>(&self, f: &mut fmt::Formatter<W>) -> fmt::Result {
-        write!(
-            f,
-            "usage: ibermarc21 check FILE... | show FILE... | copy FILE TO"
-        )
+        f.write_str("usage: ibermarc21 check FILE... | show FILE... | copy FILE TO")
     }
 }
 

@@ -4,7 +4,6 @@ pub mod Figured
 pub mod Decimals
 pub mod Verdicts
 pub mod Sequence
-pub mod Walks
 pub mod Ranges
 pub mod Sound
 pub mod Stages

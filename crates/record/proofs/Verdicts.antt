@@ -48,6 +48,11 @@ module _ {F : Type 0} where
 pub returned : {X E : Type 0} (r : Result X E) (e : E) → IsErrAnd r (λ g. g ≡ e) → r ≡ Err e
 returned r e h = let p = err_from_is_err_and r h in p.1 ∙ ap Err p.2
 
+-- the first fault answers, whatever holds of the value
+pub refused : {F X Y : Type 0} (P : X → Type 0) (fs : List F) (y : Y) (f : F) → Err f ≡ verdict fs y → Verdict fs P (Err f)
+refused P [] y f e = let z : ◌≡◌ {A = ℕ} 0 1 = cc in absurd (omega arith)
+refused P (g ∷ fs) y f e = cc
+
 -- an answer that is known by what holds of its value
 module _ {F X : Type 0} (P : X → Type 0) (fs : List F) where
   pub answered : fs ≡ [] → (x : X) → P x → Verdict fs P (Ok x)

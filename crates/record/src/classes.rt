@@ -6,27 +6,19 @@ ghost use Rattle.record.specs.Classes.{code_character, digit, subfield_code};
 pub fn is_code_character(byte: u8) -> bool
     ensures { result ≡ code_character byte }
 {
-    match byte {
-        b' ' | b'0'..=b'9' | b'a'..=b'z' => true,
-        _ => false,
-    }
+    matches!(byte, b' ' | b'0'..=b'9' | b'a'..=b'z')
 }
 
 // A subfield code: digit or small letter.
 pub fn is_subfield_code(byte: u8) -> bool
     ensures { result ≡ subfield_code byte }
 {
-    match byte {
-        b'0'..=b'9' | b'a'..=b'z' => true,
-        _ => false,
-    }
+    matches!(byte, b'0'..=b'9' | b'a'..=b'z')
 }
 
+// A digit, as figures have.
 pub fn is_digit(byte: u8) -> bool
     ensures { result ≡ digit byte }
 {
-    match byte {
-        b'0'..=b'9' => true,
-        _ => false,
-    }
+    matches!(byte, b'0'..=b'9')
 }

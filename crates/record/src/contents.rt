@@ -6,8 +6,8 @@ ghost use Rattle.record.specs.Rules.{verdict};
 
 use crate::classes::{is_code_character, is_subfield_code};
 use crate::directory::Directory;
+use crate::entry::Entry;
 use crate::faults::FrameFault;
-use crate::figures::number_at;
 use crate::slices::byte_at;
 
 // Whether byte `i` is the last of a field.
@@ -76,10 +76,10 @@ impl<'a> Directory<'a> {
         requires ends { place + entry_size self.now.bytes.now k ≤ length self.now.bytes.now }
         ensures { result ≡ verdict (faults_of self.now.bytes.now k) (place + entry_size self.now.bytes.now k) }
     {
-        let tag = number_at(self.bytes, 24 + 12 * k, 3);
-        let size = number_at(self.bytes, 24 + 12 * k + 3, 4);
-        check_field(tag, &self.bytes[place..place + size], place)?;
-        Ok(place + size)
+        let entry = Entry::read(self.bytes, k);
+        let end = place + entry.size;
+        check_field(entry.tag, &self.bytes[place..end], place)?;
+        Ok(end)
     }
 
     // The first fault among the fields, or none.

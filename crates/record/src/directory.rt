@@ -8,7 +8,7 @@ ghost use Rattle.record.specs.Rules.{over, verdict};
 
 use crate::entry::{Entry, entry_at};
 use crate::faults::FrameFault;
-use crate::figures::number_at;
+use crate::leader::told_base;
 
 // The directory of a record whose length and leader hold, in the record's bytes.
 #[derive(Clone, Copy)]
@@ -28,7 +28,7 @@ impl<'a> Directory<'a> {
         requires led { leader_faults bytes.now ≡ [] }
         ensures { result.bytes.now ≡ bytes.now }
     {
-        let entries = (number_at(bytes, 12, 5) - 25) / 12;
+        let entries = (told_base(bytes) - 25) / 12;
         Directory { bytes, entries }
     }
 

@@ -49,6 +49,7 @@ pub trait Refusal: Error {
     // The six values that it carries.
     ghost meaning: { Self → Values };
 
+    // Those values.
     fn values(&self) -> Values
         ensures { result ≡ meaning self.now };
 }

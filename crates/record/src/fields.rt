@@ -5,8 +5,9 @@ ghost use Rattle.record.specs.Figures.{part};
 ghost use Rattle.record.specs.Reading.{extent_read, field_read, fields_from, held, subfields_held};
 ghost use Rattle.std.specs.Iterator.{item_count};
 
+use crate::entry::Entry;
 use crate::extent::Extent;
-use crate::figures::number_at;
+use crate::leader::told_base;
 use crate::slices::{byte_at, part_of};
 use crate::subfields::Subfields;
 
@@ -95,17 +96,16 @@ impl<'a> Iterator for Fields<'a> {
 fn field_at<'a>(bytes: &'a [u8], k: u16) -> Field<'a>
     ensures { seen_field result ≡ field_read bytes.now k }
 {
-    let entry = 24 + 12 * usize::from(k);
-    let tag = number_at(bytes, entry, 3) as u16;
-    let size = number_at(bytes, entry + 3, 4);
-    let place = number_at(bytes, 12, 5) + number_at(bytes, entry + 7, 5);
-    let content = open(tag, bytes, place, size);
+    let k = usize::from(k);
+    let Entry { tag, size, start } = Entry::read(bytes, k);
+    let tag = tag as u16;
+    let place = told_base(bytes) + start;
     Field {
         tag,
-        entry,
+        entry: 24 + 12 * k,
         place,
         size,
-        content,
+        content: open(tag, bytes, place, size),
     }
 }
 

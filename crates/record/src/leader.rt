@@ -1,11 +1,11 @@
 // The leader of a record: its figures and its code characters.
-ghost use Rattle.std.specs.Prelude.{◌≡◌, ◌<◌, ◌≤◌, length};
-ghost use Rattle.record.specs.Leader.{base_rule, code_positions, leader_faults, leader_rule, length_rule, widths_rule};
+ghost use Rattle.std.specs.Prelude.{◌≡◌, ◌*◌, ◌^◌, ◌<◌};
+ghost use Rattle.record.specs.Leader.{base, base_rule, code_positions, leader_faults, leader_rule, length_rule, widths_rule};
 ghost use Rattle.record.specs.Rules.{verdict};
 
 use crate::classes::is_code_character;
 use crate::faults::FrameFault;
-use crate::figures::figure_at;
+use crate::figures::{figure_at, number_at};
 use crate::slices::byte_at;
 
 const CODE_POSITIONS: [usize; 8] = [5, 6, 7, 8, 9, 17, 18, 19];
@@ -15,6 +15,14 @@ pub fn positions() -> &'static [usize; 8]
     ensures { result.now ≡ code_positions }
 {
     &CODE_POSITIONS
+}
+
+// The base that the leader tells, or the number that stands in its place.
+pub(crate) fn told_base(bytes: &[u8]) -> usize
+    ensures value { result ≡ base bytes.now }
+    ensures small { result < 23 * 10 ^ 5 }
+{
+    number_at(bytes, 12, 5)
 }
 
 // Whether the first five bytes say how long the record is.

@@ -12,9 +12,8 @@ ghost use Rattle.record.specs.declared.subfields.Subfields.{Subfields};
 
 use crate::faults::FrameFault;
 use crate::fields::Fields;
-use crate::figures::number_at;
 use crate::frame::{Frame, check};
-use crate::leader::positions;
+use crate::leader::{positions, told_base};
 use crate::slices::{byte_at, part_of};
 
 // A record whose frame was checked, over the caller's bytes.
@@ -64,7 +63,7 @@ impl<'a> Record<'a> {
     pub fn contents(&self) -> &'a [u8]
         ensures { result.now ≡ contents_of (bytes_in self.now) }
     {
-        let base = number_at(self.bytes, 12, 5);
+        let base = told_base(self.bytes);
         let size = self.bytes.len().saturating_sub(base).saturating_sub(1);
         part_of(self.bytes, base, size)
     }

@@ -1,3 +1,4 @@
+-- What is left of the digits decides, and the number stays small.
 use Rattle.std.proofs.Common.{◌≡◌, ◌+◌, ◌*◌, ◌^◌, ◌≤◌, drop}
 use Rattle.record.specs.Figures.{number, number_from}
 use Rattle.record.proofs.figures.number_of.Given as goal

@@ -1,3 +1,4 @@
+-- Each call has a digit less to write.
 use Rattle.std.proofs.Common.{length}
 use Rattle.record.proofs.output.+put_figure.Given as goal
 

@@ -5,4 +5,4 @@ use Rattle.rows.proofs.Passing.{bare_sound}
 use Rattle.formats.proofs.local.LocalFormat.open.Goals as goal
 
 pub invariant_of-result-2 : goal.invariant_of-result-2
-invariant_of-result-2 c = record { sound = ap sound c.bare.ensures ∙ bare_sound }
+invariant_of-result-2 c = record { passes = ap sound c.bare.ensures ∙ bare_sound }

@@ -1,3 +1,4 @@
+-- What is left decides, and the lengths so far.
 use Rattle.std.proofs.Common.{◌≡◌, ◌*◌, ◌≤◌}
 use Rattle.record.specs.Directory.{entry_faults, sizes_before}
 use Rattle.record.specs.Rules.{over}

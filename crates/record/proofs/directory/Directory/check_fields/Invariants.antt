@@ -1,3 +1,4 @@
+-- What is left decides, and the place of the next field.
 use Rattle.std.proofs.Common.{◌≡◌}
 use Rattle.record.specs.Contents.{fields_faults, faults_of, field_place}
 use Rattle.record.specs.Rules.{over}

@@ -4,12 +4,12 @@ use Rattle.record.proofs.Sound.{based, between}
 use Rattle.record.proofs.directory.Directory.new.Goals as goal
 
 pub overflow_sub-entries : goal.overflow_sub-entries
-overflow_sub-entries c = omega (arith, based c.args.bytes.now c.requires.led, c.number_at.ensures.value)
+overflow_sub-entries c = omega (arith, based c.args.bytes.now c.requires.led, c.told_base.ensures.value)
 
 pub invariant_of-result : goal.invariant_of-result
 invariant_of-result c =
     let is = based c.args.bytes.now c.requires.led in
-    let count = ap (λ m. (m - 25) / 12) c.number_at.ensures.value in
+    let count = ap (λ m. (m - 25) / 12) c.told_base.ensures.value in
     record {
       counted = count;
       based = omega (arith, is, count);

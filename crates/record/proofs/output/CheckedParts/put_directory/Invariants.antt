@@ -1,3 +1,4 @@
+-- What is written so far, and the start of the next field.
 use Rattle.std.proofs.Common.{◌≡◌, ◌*◌, ◌++◌, length, take, drop}
 use Rattle.record.specs.Extents.{starts}
 use Rattle.record.specs.Layout.{directory}

@@ -1,5 +1,5 @@
 -- Number by number: the first fault of a stage is the first of all where the stages before it have none.
-use Rattle.std.proofs.Common.{◌≡◌, List, [], ◌∷◌, ◌++◌, length, IsErrAnd, Err, Result, sym, refl, ap, ◌∙◌, subst, append-nil}
+use Rattle.std.proofs.Common.{◌≡◌, List, [], ◌++◌, length, IsErrAnd, Err, Result, sym, refl, ap, ◌∙◌, subst, append-nil}
 use Rattle.std.proofs.lemmas.Bool.{eq-eqb, ne_eqb}
 use Rattle.record.specs.declared.faults.FrameFault.{FrameFault}
 use Rattle.record.specs.declared.faults.FrameFault.TheVariants.{DirectoryEnd}
@@ -9,7 +9,7 @@ use Rattle.record.specs.Directory.{entry_place}
 use Rattle.record.specs.Extents.{total}
 use Rattle.record.specs.PartsFaults.{code_faults, content_faults, extent_faults, faults_in, length_faults, parts_faults, sum_faults}
 use Rattle.record.specs.Rules.{Verdict, over, rule, verdict}
-use Rattle.record.proofs.Verdicts.{first, none, returned, skip, unbroken, value}
+use Rattle.record.proofs.Verdicts.{first, none, refused, returned, skip, unbroken, value}
 use Rattle.record.proofs.parts.RecordParts.check.Goals as goal
 use Rattle.record.proofs.parts.RecordParts.check.Goals.{In_ok-check_length, In_ok-check_codes, In_ok-sum}
 
@@ -33,13 +33,9 @@ module _ (p : RecordParts) where
   abbrev Answer : Result CheckedParts FrameFault → Type 0
   Answer = Verdict (faults_in p) (λ c. c.parts ≡ p)
 
-  told : (fs : List FrameFault) (f : FrameFault) → Err f ≡ verdict fs (tt {0}) → Verdict {X = CheckedParts} fs (λ c. c.parts ≡ p) (Err f)
-  told [] f e = cc
-  told (g ∷ fs) f e = cc
-
   -- the first fault of a stage is the first of all
   decided : {X : Type 0} (stage rest : List FrameFault) → Decides (stage ++ rest) → (x : X) (f : FrameFault) → Err f ≡ verdict stage x → Answer (Err f)
-  decided stage rest is x f e = told (faults_in p) f (first stage rest x tt f e ∙ ap (λ l. verdict l tt) (sym is))
+  decided stage rest is x f e = refused {X = CheckedParts} (λ c. c.parts ≡ p) (faults_in p) (tt {0}) f (first stage rest x tt f e ∙ ap (λ l. verdict l tt) (sym is))
 
   stopped : {X : Type 0} (stage rest : List FrameFault) → Decides (stage ++ rest) → (x : X) (f : FrameFault) → Err f ≡ verdict stage x → (r : Result CheckedParts FrameFault) → IsErrAnd r (λ g. g ≡ f) → Answer r
   stopped stage rest is x f e r h = subst Answer (sym (returned r f h)) (decided stage rest is x f e)

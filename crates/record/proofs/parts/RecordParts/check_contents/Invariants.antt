@@ -1,3 +1,4 @@
+-- What is left decides, and the start of the next field.
 use Rattle.std.proofs.Common.{◌≡◌, length}
 use Rattle.record.specs.Extents.{starts}
 use Rattle.record.specs.PartsFaults.{content_faults}
