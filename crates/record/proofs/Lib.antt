@@ -1,5 +1,4 @@
 pub mod Clamped
-pub mod Digits
 pub mod Figured
 pub mod Decimals
 pub mod Verdicts

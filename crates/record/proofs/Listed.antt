@@ -201,7 +201,7 @@ judged bs (Ok x) e = λ f b. subst (In f) (none (frame_faults bs) (frame_of bs) 
 judged bs (Err f) e = by_list (frame_faults bs) refl e
   where
     by_list : (fs : List FrameFault) → frame_faults bs ≡ fs → Err f ≡ verdict fs (frame_of bs) → FirstBroken bs f
-    by_list [] is told = let z : ◌≡◌ {A = ℕ} 0 1 = cc in absurd (omega arith)
+    by_list [] is told = cc
     by_list (g ∷ gs) is told =
         let same : g ≡ f = cc in
         let whole : frame_faults bs ≡ f ∷ gs = is ∙ ap (λ h. h ∷ gs) same in

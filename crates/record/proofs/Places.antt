@@ -41,7 +41,7 @@ small bs (RecordEnd p) t = omega (arith, sized bs (RecordEnd p) t (inl (omega ar
 
 -- what is told of the first fault, and that its number and place are read from it
 pub told_of : {X : Type 0} (fs : List FrameFault) (f : FrameFault) (x : X) (r : ℕ) → Err f ≡ verdict fs x → (values_of f).place < 100000 → r ≡ (values_of f).number * 100000 + (values_of f).place → (r ≡ told fs) × Readable fs r
-told_of [] f x r e h is = let z : ◌≡◌ {A = ℕ} 0 1 = cc in absurd (omega arith)
+told_of [] f x r e h is = cc
 told_of (g ∷ gs) f x r e h is =
     let same : f ≡ g = cc in
     let small : (values_of g).place < 100000 = subst (λ u. (values_of u).place < 100000) same h in

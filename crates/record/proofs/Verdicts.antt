@@ -1,5 +1,5 @@
 -- What the answer of a check says of its list of faults. Assumes nothing.
-use Rattle.std.proofs.Common.{◌≡◌, ℕ, Bool, true, false, List, [], ◌∷◌, ◌++◌, IsErrAnd, Ok, Err, Result, sym, refl, ap, ◌∙◌, subst, arith}
+use Rattle.std.proofs.Common.{◌≡◌, Bool, true, false, List, [], ◌∷◌, ◌++◌, IsErrAnd, Ok, Err, Result, sym, refl, ap, ◌∙◌, subst}
 use Rattle.std.proofs.lemmas.Result.{err_from_is_err_and}
 use Rattle.record.specs.Rules.{Verdict, rule, verdict}
 
@@ -7,22 +7,22 @@ module _ {F X : Type 0} where
   -- a check that passed found no fault, and gave its value
   pub none : (fs : List F) (x y : X) → Ok y ≡ verdict fs x → fs ≡ []
   none [] x y e = refl
-  none (f ∷ fs) x y e = let z : ◌≡◌ {A = ℕ} 0 1 = cc in absurd (omega arith)
+  none (f ∷ fs) x y e = cc
 
   pub value : (fs : List F) (x y : X) → Ok y ≡ verdict fs x → y ≡ x
   value [] x y e = cc
-  value (f ∷ fs) x y e = let z : ◌≡◌ {A = ℕ} 0 1 = cc in absurd (omega arith)
+  value (f ∷ fs) x y e = cc
 
   -- the fault of a check is the first of what goes on after it
   pub first : {Y : Type 0} (fs gs : List F) (x : X) (y : Y) (f : F) → Err f ≡ verdict fs x → Err f ≡ verdict (fs ++ gs) y
-  first [] gs x y f e = let z : ◌≡◌ {A = ℕ} 0 1 = cc in absurd (omega arith)
+  first [] gs x y f e = cc
   first (g ∷ fs) gs x y f e = cc
 
   -- checks that give the same answer, before others that do so where the first have no fault
   pub alike : (fs fs' gs gs' : List F) (x : X) → verdict fs x ≡ verdict fs' x → (fs' ≡ [] → verdict gs x ≡ verdict gs' x) → verdict (fs ++ gs) x ≡ verdict (fs' ++ gs') x
   alike [] [] gs gs' x e next = next refl
-  alike [] (g ∷ fs') gs gs' x e next = let z : ◌≡◌ {A = ℕ} 0 1 = cc in absurd (omega arith)
-  alike (f ∷ fs) [] gs gs' x e next = let z : ◌≡◌ {A = ℕ} 0 1 = cc in absurd (omega arith)
+  alike [] (g ∷ fs') gs gs' x e next = cc
+  alike (f ∷ fs) [] gs gs' x e next = cc
   alike (f ∷ fs) (g ∷ fs') gs gs' x e next = e
 
   pub none_alike : (fs gs : List F) (x : X) → verdict fs x ≡ verdict gs x → gs ≡ [] → fs ≡ []
@@ -35,11 +35,11 @@ module _ {F : Type 0} where
 
   pub parts : (fs gs : List F) → fs ++ gs ≡ [] → (fs ≡ []) × (gs ≡ [])
   parts [] gs e = (refl, e)
-  parts (f ∷ fs) gs e = let z : ◌≡◌ {A = ℕ} 0 1 = cc in absurd (omega arith)
+  parts (f ∷ fs) gs e = cc
 
   pub holds : (b : Bool) (f : F) → rule b f ≡ [] → b ≡ true
   holds true f e = refl
-  holds false f e = let z : ◌≡◌ {A = ℕ} 0 1 = cc in absurd (omega arith)
+  holds false f e = cc
 
   pub unbroken : (b : Bool) (f : F) → b ≡ true → rule b f ≡ []
   unbroken b f e = ap (λ t. rule t f) e
@@ -50,7 +50,7 @@ returned r e h = let p = err_from_is_err_and r h in p.1 ∙ ap Err p.2
 
 -- the first fault answers, whatever holds of the value
 pub refused : {F X Y : Type 0} (P : X → Type 0) (fs : List F) (y : Y) (f : F) → Err f ≡ verdict fs y → Verdict fs P (Err f)
-refused P [] y f e = let z : ◌≡◌ {A = ℕ} 0 1 = cc in absurd (omega arith)
+refused P [] y f e = cc
 refused P (g ∷ fs) y f e = cc
 
 -- an answer that is known by what holds of its value

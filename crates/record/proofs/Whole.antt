@@ -1,5 +1,5 @@
 -- The frame check passes exactly what is laid out from well-formed parts. Assumes nothing.
-use Rattle.std.proofs.Common.{◌≡◌, ℕ, List, Ok, Err, Result, ap, ◌∙◌, arith, MatchResult}
+use Rattle.std.proofs.Common.{◌≡◌, ℕ, List, Ok, Err, Result, ap, ◌∙◌, MatchResult}
 use Rattle.record.specs.declared.faults.FrameFault.{FrameFault}
 use Rattle.record.specs.declared.frame.Frame.{Frame}
 use Rattle.record.specs.Formed.{LaidOut}
@@ -13,5 +13,4 @@ pub passed_when_laid : (bs : List ℕ) (r : Result Frame FrameFault) → r ≡ v
 passed_when_laid bs (Ok x) e = framed_laid bs (none (frame_faults bs) (frame_of bs) x e)
 passed_when_laid bs (Err f) e = λ l.
     let told : Err f ≡ Ok (frame_of bs) = e ∙ ap (λ fs. verdict fs (frame_of bs)) (laid_framed bs l) in
-    let z : ◌≡◌ {A = ℕ} 0 1 = cc in
-    omega arith
+    cc

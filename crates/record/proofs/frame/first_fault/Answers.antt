@@ -23,9 +23,6 @@ returns-in_err-check_leader c =
     ∙ first _ _ tt (frame_of bs) _ c.in_err-check_leader.ensures
     ∙ ap (λ l. verdict l (frame_of bs)) (sym (at_leader bs c.if-not-size_holds.ensures))
 
-pub new-directory-requires : goal.new-directory-requires
-new-directory-requires c = record { sized = sym c.if-not-size_holds.ensures; led = none _ _ _ c.in_ok-check_leader.ensures }
-
 pub returns-in_err-check : goal.returns-in_err-check
 returns-in_err-check c =
     let bs = c.args.bytes.now in
@@ -36,9 +33,6 @@ returns-in_err-check c =
 -- the directory has no fault
 clean : (c : In_ok-check) → directory_faults c.args.bytes.now ≡ []
 clean c = none _ _ _ (c.in_ok-check.ensures ∙ ap (λ l. verdict (directory_faults l) tt) c.new-directory.ensures)
-
-pub check_fields-requires : goal.check_fields-requires
-check_fields-requires c = none _ _ _ c.in_ok-check.ensures
 
 pub returns-in_err-check_fields : goal.returns-in_err-check_fields
 returns-in_err-check_fields c =
