@@ -3,7 +3,7 @@ ghost use Rattle.std.specs.Prelude.{◌≡◌, ◌-◌, ◌^◌, ◌<◌};
 ghost use Rattle.record.specs.Cursors.{FieldStep, fields_left, seen_content, seen_field, subfields_left};
 ghost use Rattle.record.specs.Figures.{part};
 ghost use Rattle.record.specs.Reading.{extent_read, field_read, fields_from, held, subfields_held};
-ghost use Rattle.std.specs.Iterator.{item_count};
+ghost use Rattle.std.specs.Iterator.{at_most};
 
 use crate::entry::Entry;
 use crate::extent::Extent;
@@ -80,7 +80,7 @@ impl<'a> Iterator for Fields<'a> {
 
     ghost next_gives = { FieldStep };
 
-    ghost remaining = { item_count fields_left };
+    ghost remaining = { λ s. at_most (s.entries - s.next) };
 
     fn next(&mut self) -> Option<Field<'a>> {
         let k = self.next;

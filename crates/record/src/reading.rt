@@ -81,6 +81,16 @@ mod tests {
         read(record).ok()?.fields().nth(k)
     }
 
+    // How many fields a record has.
+    fn field_count(record: &[u8]) -> Option<usize> {
+        Some(read(record).ok()?.fields().count())
+    }
+
+    // How many subfields field `k` has.
+    fn subfield_count(record: &[u8], k: usize) -> Option<usize> {
+        Some(field(record, k)?.subfields().count())
+    }
+
     // Tag, entry, place and length of field `k`.
     fn numbers(record: &[u8], k: usize) -> Option<(u16, usize, usize, usize)> {
         let found = field(record, k)?;
@@ -108,6 +118,8 @@ mod tests {
         assert_eq!(rt; marks(a, 0, 0), Some((39, b'j', 3)));
         assert_eq!(rt; marks(a, 0, 1), None);
         assert_eq!(rt; numbers(a, 1), None);
+        assert_eq!(rt; field_count(a), Some(1));
+        assert_eq!(rt; subfield_count(a, 0), Some(1));
     }
 
     // 001 `a1`, 003 with no byte but its 1E, and 245 `10` with an empty $a, $b xy and an empty $c.
@@ -128,6 +140,9 @@ mod tests {
         assert_eq!(rt; marks(record, 2, 1), Some((69, b'b', 2)));
         assert_eq!(rt; marks(record, 2, 2), Some((73, b'c', 0)));
         assert_eq!(rt; marks(record, 2, 3), None);
+        assert_eq!(rt; field_count(record), Some(3));
+        assert_eq!(rt; subfield_count(record, 0), Some(0));
+        assert_eq!(rt; subfield_count(record, 2), Some(3));
     }
 
     #[test]

@@ -2,7 +2,7 @@
 ghost use Rattle.std.specs.Prelude.{◌≡◌, ◌+◌, ◌-◌, ◌<◌, length, drop, slice_index};
 ghost use Rattle.record.specs.Cursors.{SubfieldStep, subfields_left};
 ghost use Rattle.record.specs.Reading.{piece, subfields_in};
-ghost use Rattle.std.specs.Iterator.{item_count};
+ghost use Rattle.std.specs.Iterator.{at_most};
 
 use crate::slices::{byte_at, part_of, rest_of};
 
@@ -38,7 +38,7 @@ impl<'a> Iterator for Subfields<'a> {
 
     ghost next_gives = { SubfieldStep };
 
-    ghost remaining = { item_count subfields_left };
+    ghost remaining = { λ s. at_most (length s.bytes.now - s.place) };
 
     fn next(&mut self) -> Option<Subfield<'a>> {
         let place = delimiter(self.bytes, self.place);

@@ -1,5 +1,5 @@
 -- One step of the cursor of fields, and that less is left after it.
-use Rattle.std.proofs.Common.{◌≡◌, ℕ, suc, ◌+◌, ◌-◌, ◌<◌, ◌≤◌, List, [], ◌∷◌, length, sym, ap, ◌∙◌, add-one, arith}
+use Rattle.std.proofs.Common.{◌≡◌, ℕ, suc, ◌+◌, ◌-◌, ◌<◌, ◌≤◌, List, [], ◌∷◌, sym, ap, ◌∙◌, add-one, arith}
 use Rattle.record.specs.Reading.{field_read, fields_from}
 use Rattle.record.proofs.fields.FieldsIterator.next.Goals as goal
 use Rattle.std.proofs.iter.Next.{firm}
@@ -22,5 +22,7 @@ pub returns : goal.returns
 returns c =
     let s = c.args.self.now in
     let rest = fields_from s.bytes.now (s.next + 1) (s.entries - (s.next + 1)) in
-    let step = one_more s.bytes.now s.next s.entries c.if-k-self.false ∙ ap (λ f. f ∷ rest) (sym c.field_at.ensures) in
-    record { steps = step; goes = firm (tt, tt, omega (arith, ap length step)) (λ _. tt) }
+    record {
+      steps = one_more s.bytes.now s.next s.entries c.if-k-self.false ∙ ap (λ f. f ∷ rest) (sym c.field_at.ensures);
+      goes = firm (tt, tt, omega (arith, c.if-k-self.false)) (λ _. tt);
+    }

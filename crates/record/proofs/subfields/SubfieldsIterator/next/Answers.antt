@@ -1,5 +1,5 @@
 -- One step of the cursor of subfields, and that less is left after it.
-use Rattle.std.proofs.Common.{length, ap, ◌∙◌, arith}
+use Rattle.std.proofs.Common.{◌∙◌, arith}
 use Rattle.std.proofs.lemmas.List.{at_drop_all}
 use Rattle.record.specs.Reading.{subfields_in}
 use Rattle.record.proofs.Pieces.{skipped, turned}
@@ -16,13 +16,17 @@ returns-then-place-self-clause-steps c =
 pub returns : goal.returns
 returns c =
     let s = c.args.self.now in
-    let step = turned s.bytes.now s.place c.delimiter-place.result c.delimiter-end.result _ _ _ (record {
-      found = c.delimiter-place.ensures.value;
-      within = c.if-place-self.false;
-      mark = c.delimiter-place.ensures.stops c.if-place-self.false;
-      ended = c.delimiter-end.ensures.value;
-      rest_is = c.part_of-rest.ensures.value;
-      code_is = c.byte_at.ensures;
-      body_is = c.rest_of.ensures;
-    }) in
-    record { steps = step; goes = firm (tt, tt, omega (arith, ap length step)) (λ _. tt) }
+    let found = c.delimiter-place.ensures.value in
+    let ended = c.delimiter-end.ensures.value in
+    record {
+      steps = turned s.bytes.now s.place c.delimiter-place.result c.delimiter-end.result _ _ _ (record {
+        found = found;
+        within = c.if-place-self.false;
+        mark = c.delimiter-place.ensures.stops c.if-place-self.false;
+        ended = ended;
+        rest_is = c.part_of-rest.ensures.value;
+        code_is = c.byte_at.ensures;
+        body_is = c.rest_of.ensures;
+      });
+      goes = firm (tt, tt, omega (arith, found, ended, c.if-place-self.false)) (λ _. tt);
+    }
