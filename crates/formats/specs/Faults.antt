@@ -10,9 +10,6 @@ use Rattle.rows.specs.Sets.{has}
 use Rattle.rows.specs.Table.{Table, only_once, present}
 use Rattle.formats.specs.declared.faults.FormatFault.{FormatFault}
 use Rattle.formats.specs.declared.faults.FormatFault.TheVariants as fault
-use Rattle.formats.specs.declared.indicator.WhichIndicator.{WhichIndicator}
-use Rattle.formats.specs.declared.indicator.WhichIndicator.TheVariants.{First, Second}
-use Rattle.formats.specs.Indicators.{number_of_indicator}
 
 -- 23: code i of the eight leader codes, at its position
 abbrev pub code_fault : Table → List ℕ → ℕ → List FormatFault
@@ -26,13 +23,13 @@ abbrev pub tag_fault : Table → PlacedField → List FormatFault
 tag_fault M f = rule (present (M.occurs f.tag)) (fault.Tag f.entry f.tag)
 
 -- 25: an indicator, at its byte
-abbrev pub indicator_fault : Table → ℕ → ℕ → WhichIndicator → ℕ → List FormatFault
-indicator_fault M tag place which code = rule (M.indicator tag (number_of_indicator which) code) (fault.Indicator place tag which code)
+abbrev pub indicator_fault : Table → ℕ → ℕ → ℕ → ℕ → List FormatFault
+indicator_fault M tag place number code = rule (M.indicator tag number code) (fault.Indicator place tag number code)
 
 -- the two of a field that begins at this place
 abbrev pub indicators_held : Table → ℕ → ℕ → Held → List FormatFault
 indicators_held M tag place (bytes bs) = []
-indicators_held M tag place (coded i j ss) = indicator_fault M tag place First i ++ indicator_fault M tag (place + 1) Second j
+indicators_held M tag place (coded i j ss) = indicator_fault M tag place 1 i ++ indicator_fault M tag (place + 1) 2 j
 
 abbrev pub indicator_faults : Table → PlacedField → List FormatFault
 indicator_faults M f = indicators_held M f.tag f.place f.holds

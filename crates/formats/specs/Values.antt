@@ -4,7 +4,6 @@ use Rattle.record.specs.declared.faults.Layer.TheVariants as layer
 use Rattle.record.specs.declared.faults.Values.{Values}
 use Rattle.record.specs.Values as frame
 use Rattle.formats.specs.declared.faults.FormatFault.{FormatFault}
-use Rattle.formats.specs.Indicators.{number_of_indicator}
 use Rattle.formats.specs.declared.faults.FormatFault.TheVariants.{Frame, LeaderCode, Tag, Indicator, Subfield, RepeatedSubfield, RepeatedField}
 
 abbrev pub format_values : ℕ → ℕ → ℕ → ℕ → ℕ → Values
@@ -15,7 +14,7 @@ abbrev pub values_of : FormatFault → Values
 values_of (Frame f) = frame.values_of f
 values_of (LeaderCode p c) = format_values 23 p 0 0 c
 values_of (Tag p t) = format_values 24 p t 0 0
-values_of (Indicator p t i c) = format_values 25 p t (number_of_indicator i) c
+values_of (Indicator p t i c) = format_values 25 p t i c
 values_of (Subfield p t c) = format_values 26 p t 0 c
 values_of (RepeatedSubfield p t c) = format_values 27 p t 0 c
 values_of (RepeatedField p t) = format_values 28 p t 0 0

@@ -4,6 +4,7 @@ ghost use Rattle.std.specs.List.{flat_map};
 ghost use Rattle.record.specs.Cursors.{fields_left, seen_field};
 ghost use Rattle.record.specs.Rules.{verdict};
 ghost use Rattle.formats.specs.Faults.{indicator_fault, indicator_faults, leader_faults, subfield_faults, tag_fault};
+ghost use Rattle.formats.specs.Indicators.{number_of_indicator};
 
 use crate::checking::RecordCheck;
 use crate::faults::FormatFault;
@@ -49,13 +50,14 @@ impl<'a, F: Format> RecordCheck<'a, F> {
         which: WhichIndicator,
         code: u8,
     ) -> Result<(), FormatFault>
-        ensures { result ≡ verdict (indicator_fault (F.Format.meaning self.now.format.now) tag place which code) tt }
+        ensures { result ≡ verdict (indicator_fault (F.Format.meaning self.now.format.now) tag place (number_of_indicator which) code) tt }
     {
-        if !self.format.admits_indicator(tag, u8::from(which), code) {
+        let indicator = u8::from(which);
+        if !self.format.admits_indicator(tag, indicator, code) {
             return Err(FormatFault::Indicator {
                 place,
                 tag,
-                which,
+                indicator,
                 code,
             });
         }

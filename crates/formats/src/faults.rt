@@ -4,7 +4,6 @@ ghost use Rattle.formats.specs.Values.{values_of};
 ghost use Rattle.formats.specs.Words.{words_of};
 ghost use Rattle.formats.specs.declared.faults.FormatFault.TheVariants.{Frame as Framed};
 
-use crate::indicator::WhichIndicator;
 use record::faults::{FrameFault, Layer, Refusal, Values};
 use std::error::Error;
 use std::fmt;
@@ -28,7 +27,7 @@ pub enum FormatFault {
     Indicator {
         place: usize,
         tag: u16,
-        which: WhichIndicator,
+        indicator: u8,
         code: u8,
     },
     // 26: a subfield code that the tag lacks
@@ -77,11 +76,11 @@ impl Refusal for FormatFault {
             Self::Indicator {
                 place,
                 tag,
-                which,
+                indicator,
                 code,
             } => Values {
                 tag,
-                indicator: u8::from(which),
+                indicator,
                 code,
                 ..Values::at(Layer::Format, 25, place)
             },

@@ -4,7 +4,6 @@ use Rattle.record.specs.Cursors.{seen_content}
 use Rattle.record.specs.Rules.{verdict}
 use Rattle.record.proofs.Verdicts.{first, returned}
 use Rattle.formats.specs.Faults.{indicator_fault, indicators_held}
-use Rattle.formats.specs.declared.indicator.WhichIndicator.TheVariants.{First, Second}
 use Rattle.formats.proofs.checking.RecordCheck.check_both.Goals as goal
 
 pub returns-in_err-check_indicator-in-Data : goal.returns-in_err-check_indicator-in-Data
@@ -12,5 +11,5 @@ returns-in_err-check_indicator-in-Data g c =
     let M = g.F.Format.meaning c.args.self.now.format.now in
     let f = c.args.field in
     returned _ _ c.from_residual.ensures.1
-    ∙ first (indicator_fault M f.tag f.place First c.in-Data.first) (indicator_fault M f.tag (f.place + 1) Second c.in-Data.second) tt tt _ c.in_err-check_indicator-in-Data.ensures
+    ∙ first (indicator_fault M f.tag f.place 1 c.in-Data.first) (indicator_fault M f.tag (f.place + 1) 2 c.in-Data.second) tt tt _ c.in_err-check_indicator-in-Data.ensures
     ∙ ap (λ h. verdict (indicators_held M f.tag f.place (seen_content h)) tt) (sym c.in-Data.is)
