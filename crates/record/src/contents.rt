@@ -39,10 +39,10 @@ fn data_holds(field: &[u8], i: usize) -> bool
         _ => byte_at(field, i - 1) != 0x1f || is_subfield_code(byte),
     };
     in_class
-        && match byte {
-            0x1e => is_last(field, i),
-            0x1d => false,
-            _ => !is_last(field, i),
+        && if is_last(field, i) {
+            byte == 0x1e
+        } else {
+            byte != 0x1d && byte != 0x1e
         }
 }
 
@@ -62,10 +62,12 @@ pub(crate) fn check_field(tag: usize, field: &[u8], place: usize) -> Result<(), 
     requires { place + length field.now ≤ 99999 }
     ensures { result ≡ verdict (field_faults tag field.now place) tt }
 {
-    match (0..field.len()).find(|i| !byte_holds(tag, field, *i)) {
-        Some(i) => Err(FrameFault::Field { place: place + i }),
-        None => Ok(()),
+    for i in 0..field.len() {
+        if !byte_holds(tag, field, i) {
+            return Err(FrameFault::Field { place: place + i });
+        }
     }
+    Ok(())
 }
 
 impl<'a> Directory<'a> {
