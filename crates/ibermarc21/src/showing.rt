@@ -7,6 +7,12 @@ use std::alloc::{AllocError, Global};
 use std::io;
 use std::io::Write;
 
+// The digits of hexadecimal numbers.
+const HEX: &[u8; 16] = b"0123456789ABCDEF";
+
+// Room for the leader's line, which has 29 bytes: what a text takes is then a power of two.
+const LEADER_LINE: usize = 32;
+
 // Prints each record; there is nothing to keep between them.
 #[derive(Clone, Copy)]
 pub(crate) struct Showing;
@@ -33,7 +39,7 @@ impl Visit for Showing {
 
 // The leader in a line, and then a line a field.
 fn record_text(heap: Global, record: Record<'_>) -> io::Result<Vec<u8>> {
-    let mut text = Vec::new(heap);
+    let mut text = Vec::with_capacity(heap, LEADER_LINE)?;
     text.extend_from_slice(b"LDR ")?;
     push_codes(&mut text, record.leader())?;
     text.push(b'\n')?;
@@ -44,9 +50,10 @@ fn record_text(heap: Global, record: Record<'_>) -> io::Result<Vec<u8>> {
 }
 
 // The tag in three digits, and a control field's bytes or the indicators and subfields.
-fn push_field(text: &mut Vec<u8>, field: Field<'_>) -> io::Result<()> {
+fn push_field(text: &mut Vec<u8>, field: Field<'_>) -> Result<(), AllocError> {
     let tag = field.tag;
-    write!(text, "{tag:03} ")?;
+    text.extend_from_slice(&[tag / 100, tag / 10, tag].map(|n| b'0' + (n % 10) as u8))?;
+    text.push(b' ')?;
     match field.content {
         Content::Control(bytes) => push_data(text, bytes)?,
         Content::Data {
@@ -77,10 +84,14 @@ fn push_codes(text: &mut Vec<u8>, codes: &[u8]) -> Result<(), AllocError> {
 }
 
 // Bytes as they are, but for those below the blank, which would break the line: <0A> for a line feed.
-fn push_data(text: &mut Vec<u8>, bytes: &[u8]) -> io::Result<()> {
+fn push_data(text: &mut Vec<u8>, bytes: &[u8]) -> Result<(), AllocError> {
     for byte in bytes {
         match *byte {
-            byte @ 0..=0x1f => write!(text, "<{byte:02X}>")?,
+            byte @ 0..=0x1f => {
+                let high = HEX[usize::from(byte / 16)];
+                let low = HEX[usize::from(byte % 16)];
+                text.extend_from_slice(&[b'<', high, low, b'>'])?
+            }
             byte => text.push(byte)?,
         }
     }
