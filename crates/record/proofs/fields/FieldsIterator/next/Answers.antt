@@ -1,8 +1,7 @@
--- One step of the cursor of fields, and that less is left after it.
+-- One step of the cursor of fields.
 use Rattle.std.proofs.Common.{◌≡◌, ℕ, suc, ◌+◌, ◌-◌, ◌<◌, ◌≤◌, List, [], ◌∷◌, sym, ap, ◌∙◌, add-one, arith}
 use Rattle.record.specs.Reading.{field_read, fields_from}
 use Rattle.record.proofs.fields.FieldsIterator.next.Goals as goal
-use Rattle.std.proofs.iter.Next.{firm}
 
 one_more : (bs : List ℕ) (k n : ℕ) → k < n → fields_from bs k (n - k) ≡ field_read bs k ∷ fields_from bs (k + 1) (n - (k + 1))
 unfolding fields_from
@@ -18,11 +17,8 @@ returns-then-k-self-clause-steps c =
     let none = none_left s.bytes.now s.next s.entries c.if-k-self.true in
     (none, none)
 
-pub returns : goal.returns
-returns c =
+pub returns-clause-steps : goal.returns-clause-steps
+returns-clause-steps c =
     let s = c.args.self.now in
     let rest = fields_from s.bytes.now (s.next + 1) (s.entries - (s.next + 1)) in
-    record {
-      steps = one_more s.bytes.now s.next s.entries c.if-k-self.false ∙ ap (λ f. f ∷ rest) (sym c.field_at.ensures);
-      goes = firm (tt, tt, omega (arith, c.if-k-self.false)) (λ _. tt);
-    }
+    one_more s.bytes.now s.next s.entries c.if-k-self.false ∙ ap (λ f. f ∷ rest) (sym c.field_at.ensures)
